@@ -1,0 +1,71 @@
+-- Any binary arithmetic coder whose sizes are given from outside, and over it any model that adapts: how a band is written. Assumes nothing.
+use mathlib.Core.Path.{_≡_, refl, sym, ap, _∙_}
+use Prim.Native.Nat.{ℕ, zero, suc, _+_, _-_, _≤_}
+use mathlib.Core.Bool.{Bool, true, false, cond}
+use mathlib.Core.List.{List, [], _∷_, _++_}
+use lib.Dec.{eqb}
+
+-- A writer: a pel of the size q is put in as the expected one or not; was there a shift; the shifts so far; the code if the band ends here.
+pub record Writer : Type 1 where
+  pub State : Type 0
+  pub start : State
+  pub put : ℕ → Bool → State → State
+  pub moves : ℕ → Bool → State → Bool
+  pub count : State → ℕ
+  pub code : State → List ℕ
+
+-- A model: states that give the size and the pel expected, and that move on by the pel and by whether there was a shift. Tables, contexts
+-- and rows are one such model.
+pub record Model : Type 1 where
+  pub State : Type 0
+  pub size : State → ℕ
+  pub sense : State → ℕ
+  pub move : State → ℕ → Bool → State
+
+-- where a band stands: what is learned, and the writer
+pub record Stage (A : Model) (W : Writer) : Type 0 where
+  pub model : A .State
+  pub writer : W .State
+
+module _ (A : Model) (W : Writer) where
+  -- one pel is put in
+  abbrev pub step : Stage A W → ℕ → Stage A W
+  step s p =
+      let q : ℕ = A .size (s .model) in
+      let e : Bool = eqb p (A .sense (s .model)) in
+      record { model = A .move (s .model) p (W .moves q e (s .writer)); writer = W .put q e (s .writer) }
+
+  unfoldable pub after : Stage A W → List ℕ → Stage A W
+  after s [] = s
+  after s (p ∷ ps) = after (step s p) ps
+
+  -- each band starts a new code
+  abbrev pub opening : A .State → Stage A W
+  opening m = record { model = m; writer = W .start }
+
+  abbrev pub bandCode : A .State → List ℕ → List ℕ
+  bandCode m ps = W .code (after (opening m) ps .writer)
+
+  abbrev pub bandCount : A .State → List ℕ → ℕ
+  bandCount m ps = W .count (after (opening m) ps .writer)
+
+  abbrev pub bandModel : A .State → List ℕ → A .State
+  bandModel m ps = after (opening m) ps .model
+
+  -- one list of pels after another
+  pub after-append : (ps qs : List ℕ) (s : Stage A W) → after s (ps ++ qs) ≡ after (after s ps) qs
+  unfolding after
+  after-append [] qs s = refl
+  after-append (p ∷ ps) qs s = after-append ps qs (step s p)
+
+  -- what every put keeps, a band keeps
+  pub kept : (Sized : ℕ → Type 0) (P : W .State → Type 0) → ((q : ℕ) (e : Bool) (w : W .State) → Sized q → P w → P (W .put q e w)) → ((m : A .State) → Sized (A .size m))
+      → (ps : List ℕ) (s : Stage A W) → P (s .writer) → P (after s ps .writer)
+  unfolding after
+  kept Sized P put sized [] s h = h
+  kept Sized P put sized (p ∷ ps) s h = kept Sized P put sized ps (step s p) (put (A .size (s .model)) (eqb p (A .sense (s .model))) (s .writer) (sized (s .model)) h)
+
+-- a list of pels: each is 0 or 1
+abbrev pub AllPels : List ℕ → Type 0
+AllPels [] = Unit {0}
+AllPels (p ∷ ps) = (p ≤ 1) × AllPels ps

@@ -1,0 +1,1 @@
+// What is shown once for every coder; all of it stands in specs/.

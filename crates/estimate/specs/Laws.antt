@@ -1,0 +1,116 @@
+-- What holds of every row: its value is 1 to AC1 hex, and the next entries of a lawful entry are lawful. Assumes nothing.
+use mathlib.Core.Path.{_≡_, refl, sym, ap, _∙_, subst}
+use mathlib.Core.Logic.{_⊎_, inl, inr}
+use Prim.Native.Nat.{ℕ, zero, suc, _+_, _-_, _*_, _/_, _%_, _≤_, _<_}
+use native.Mathlib.Omega.{arith}
+use native.Mathlib.Decide.{decLt}
+use mathlib.Core.Bool.{Bool, true, false, _&&_}
+use mathlib.Core.List.{List, [], _∷_}
+use lib.ListN.{getD, set, length, replicate, getD-replicate, List·getD-eq-default}
+use lib.Seq.{getD-set-same, getD-set-other, set-out}
+use lib.Dec.{T, leb, ltb, eqb, leb→le, eqb→eq}
+use borrow.Author.Tests.{eq-eqb, ne-eqb}
+use Rattle.ground.specs.Tests.{same?}
+use Rattle.ground.specs.Tables.{every, at-each, and-left, and-right}
+use Rattle.estimate.specs.Estimate.{rows, rowOf, rise, fall, flip, next, entryOf, indexOf, senseOf, fresh, LawfulEntry, LawfulTable}
+
+-- ---- the values
+inRange : ℕ → ℕ → Bool
+inRange i q = leb 1 q && leb q 0xAC1
+
+pub record Sized (q : ℕ) : Type 0 where
+  pub some : 1 ≤ q
+  pub small : q ≤ 0xAC1
+
+sized-by : (q : ℕ) → T (leb 1 q && leb q 0xAC1) → Sized q
+sized-by q t = record { some = leb→le 1 q (and-left (leb 1 q) (leb q 0xAC1) t); small = leb→le q 0xAC1 (and-right (leb 1 q) (leb q 0xAC1) t) }
+
+pub row-sized : (e : ℕ) → Sized (rowOf e)
+unfolding rowOf inRange
+row-sized e = go (decLt (indexOf e) 30)
+  where
+    go : Dec (indexOf e < 30) → Sized (getD rows (indexOf e) 1)
+    go (yes h) = sized-by (getD rows (indexOf e) 1) (at-each inRange 1 rows tt (indexOf e) h)
+    go (no h) = subst Sized (sym (List·getD-eq-default rows 1 {n = indexOf e} (omega arith))) (record { some = omega arith; small = omega arith })
+
+-- what stands at an index of the table, whatever is asked past its end
+default : (xs : List ℕ) (i d : ℕ) → i < length xs → getD xs i 0 ≡ getD xs i d
+default [] i d h = absurd (omega arith)
+default (x ∷ xs) zero d h = refl
+default (x ∷ xs) (suc i) d h = default xs i d (omega arith)
+
+pub row-at : (e : ℕ) → LawfulEntry e → getD rows (e / 2) 0 ≡ rowOf e
+unfolding rowOf
+row-at e h = default rows (e / 2) 1 (omega arith)
+
+-- ---- the next entries
+rise-lawful : (e : ℕ) → LawfulEntry (next true e)
+unfolding next rise
+rise-lawful e = omega arith
+
+flip-bit : (i s : ℕ) → s ≤ 1 → flip i s ≤ 1
+unfolding flip
+flip-bit i s h = Rattle.ground.specs.Tests.by-cond (λ (k : ℕ). k ≤ 1) (lib.Dec.eqb i 0) (1 - s) s (λ t. omega arith) (λ t. h)
+
+fall-lawful : (e : ℕ) → LawfulEntry e → LawfulEntry (next false e)
+unfolding next
+fall-lawful e h = omega (arith, flip-bit (indexOf e) (senseOf e) (omega arith))
+
+pub next-lawful : (b : Bool) (e : ℕ) → LawfulEntry e → LawfulEntry (next b e)
+next-lawful true e h = rise-lawful e
+next-lawful false e h = fall-lawful e h
+
+-- the cases, as a program meets them
+pub next-rise : (e : ℕ) → e / 2 < 29 → e + 2 ≡ next true e
+unfolding next rise
+next-rise e h = omega arith
+
+pub next-top : (e : ℕ) → LawfulEntry e → 29 ≤ e / 2 → e ≡ next true e
+unfolding next rise
+next-top e h k = omega arith
+
+pub next-flip : (e : ℕ) → e / 2 ≡ 0 → 1 - e ≡ next false e
+unfolding next flip
+next-flip e h = rw (eq-eqb (e / 2) 0 h) (omega arith)
+
+-- the falls of the entries, row by row
+abbrev pub falls : List ℕ
+falls = 0 ∷ 2 ∷ 2 ∷ 2 ∷ 2 ∷ 2 ∷ 2 ∷ 4 ∷ 4 ∷ 4 ∷ 4 ∷ 4 ∷ 4 ∷ 4 ∷ 4 ∷ 4 ∷ 4 ∷ 4 ∷ 4 ∷ 4 ∷ 4 ∷ 4 ∷ 4 ∷ 4 ∷ 6 ∷ 4 ∷ 6 ∷ 4 ∷ 6 ∷ 4 ∷ []
+
+fallsBy : ℕ → ℕ → Bool
+fallsBy i f = eqb f (2 * fall i) && leb (fall i) i
+
+all-falls : (i : ℕ) → i < 30 → T (fallsBy i (getD falls i 0))
+unfolding fallsBy fall
+all-falls i h = at-each fallsBy 0 falls tt i h
+
+pub next-fall : (e : ℕ) → LawfulEntry e → (e / 2 ≡ 0 → ⊥) → (getD falls (e / 2) 0 ≤ e) × (e - getD falls (e / 2) 0 ≡ next false e)
+unfolding next flip fallsBy
+next-fall e h k =
+    let i : ℕ = e / 2 in
+    let p : T (eqb (getD falls i 0) (2 * fall i) && leb (fall i) i) = all-falls i (omega arith) in
+    let f : getD falls i 0 ≡ 2 * fall i = eqb→eq _ _ (and-left (eqb (getD falls i 0) (2 * fall i)) (leb (fall i) i) p) in
+    let l : fall i ≤ i = leb→le _ _ (and-right (eqb (getD falls i 0) (2 * fall i)) (leb (fall i) i) p) in
+    (omega arith, rw (ne-eqb i 0 k) (omega arith))
+
+-- ---- tables
+pub fresh-entry : (cx : ℕ) → cx < 128 → (indexOf (getD fresh cx 0) ≡ 0) × (senseOf (getD fresh cx 0) ≡ 0)
+unfolding fresh
+fresh-entry cx h = let e : getD (replicate 128 0) cx 0 ≡ zero = getD-replicate 128 cx 0 0 h in (ap (λ (x : ℕ). x / 2) e, ap (λ (x : ℕ). x % 2) e)
+
+pub fresh-lawful : LawfulTable fresh
+unfolding fresh
+fresh-lawful cx = go (decLt cx 128)
+  where
+    go : Dec (cx < 128) → LawfulEntry (getD (replicate 128 0) cx 0)
+    go (yes h) = rw (getD-replicate {A = ℕ} 128 cx 0 0 h) (omega arith)
+    go (no h) = rw (List·getD-eq-default {A = ℕ} (replicate 128 0) 0 {n = cx} (omega arith)) (omega arith)
+
+-- one entry changed
+pub set-lawful : (t : List ℕ) (cx e : ℕ) → LawfulTable t → LawfulEntry e → LawfulTable (set t cx e)
+set-lawful t cx e l h k = go (same? k cx) (decLt cx (length t))
+  where
+    go : (k ≡ cx) ⊎ (mathlib.Core.Logic._≢_ k cx) → Dec (cx < length t) → LawfulEntry (getD (set t cx e) k 0)
+    go (inl y) (yes n) = rw (y, getD-set-same t cx e 0 n) h
+    go (inl y) (no n) = rw (set-out t cx e (omega arith)) (l k)
+    go (inr y) n = rw (getD-set-other t cx k e 0 y) (l k)

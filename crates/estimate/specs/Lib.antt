@@ -1,0 +1,2 @@
+pub mod Estimate
+pub mod Laws

@@ -1,0 +1,4 @@
+pub mod Value
+pub mod End
+pub mod Ahead
+pub mod Code

@@ -1,0 +1,1 @@
+// Laws of every written code; all of it stands in specs/.

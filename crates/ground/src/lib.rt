@@ -1,0 +1,1 @@
+// Small laws that every layer uses; all of it stands in specs/.

@@ -1,0 +1,7 @@
+pub mod Octets
+pub mod Unit
+pub mod Fit
+pub mod Loops
+pub mod Lift
+pub mod OnePel
+pub mod Ending

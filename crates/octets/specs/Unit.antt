@@ -1,0 +1,32 @@
+-- The unit of the held byte, a power of two, and its laws. Assumes nothing.
+use mathlib.Core.Path.{_≡_, refl, ap, _∙_}
+use Prim.Native.Nat.{ℕ, suc, _-_, _*_, _^_, _≤_}
+use native.Mathlib.Nat.{pow-succ'}
+use native.Mathlib.Omega.{arith}
+
+-- the unit of the held byte, when t shifts are to go
+unfoldable pub unit : ℕ → ℕ
+unit t = 2 ^ (24 - t)
+
+pub unit-pred : (t : ℕ) → 1 ≤ t → t ≤ 24 → unit (t - 1) ≡ 2 * unit t
+unfolding unit
+unit-pred t h k = ap (λ (n : ℕ). 2 ^ n) (go t h k) ∙ pow-succ' 2 (24 - t)
+  where
+    go : (t : ℕ) → 1 ≤ t → t ≤ 24 → 24 - (t - 1) ≡ suc (24 - t)
+    go t h k = omega arith
+
+pub unit-zero : unit 0 ≡ 16777216
+unfolding unit
+unit-zero = refl
+
+pub unit-eight : unit 8 ≡ 65536
+unfolding unit
+unit-eight = refl
+
+pub unit-seven : unit 7 ≡ 131072
+unfolding unit
+unit-seven = refl
+
+pub unit-pos : (t : ℕ) → 1 ≤ unit t
+unfolding unit
+unit-pos t = lib.Pow.pow-pos (24 - t)

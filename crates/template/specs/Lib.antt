@@ -1,0 +1,2 @@
+pub mod Pels
+pub mod Window
