@@ -12,7 +12,7 @@ use Rattle.interval.specs.declared.Interval.{Interval}
 use Rattle.interval.specs.Interval.{Decision, turns}
 use Rattle.interval.specs.Growing.{jumped, jumped-none, jumped-more}
 use Rattle.octets.specs.Octets.{Registers, start, bits, carried, left, byte, due, double, shifts, at, part, pel, run, pad, pads, lastByte, cover, finish}
-use Rattle.octets.specs.Fit.{due-width}
+use Rattle.octets.specs.Fit.{due-width, due-count, by-part}
 
 -- ---- bytes before
 abbrev pub behind : List ℕ → Registers → Registers
@@ -120,3 +120,14 @@ steps-byte (suc j) k w e =
 pub steps-at : (n k : ℕ) (w : Registers) → w .until ≡ n → 1 ≤ n → steps (n + k) w ≡ steps k (byte (jump n w))
 steps-at zero k w e h = absurd (omega arith)
 steps-at (suc j) k w e h = steps-byte j k w e
+
+-- the shifts of a pel are twelve at the most
+shifts-count : (n : ℕ) (w : Registers) → shifts n w .interval .count ≤ w .interval .count + n
+unfolding shifts
+shifts-count zero w = omega arith
+shifts-count (suc n) w =
+    by-cond (λ (v : Registers). v .interval .count ≤ w .interval .count + suc n) (ltb (w .interval .width) 4096) (shifts n (due (double w))) w
+    (λ t. omega (arith, shifts-count n (due (double w)), due-count (double w))) (λ t. omega arith)
+
+pub pel-count : (d : Decision) (w : Registers) → pel d w .interval .count ≤ w .interval .count + 12
+pel-count d w = by-part (λ (v : Registers). shifts 12 v .interval .count ≤ w .interval .count + 12) d w (λ t. shifts-count 12 _) (λ t. shifts-count 12 _)

@@ -4,7 +4,7 @@ use Prim.Native.Nat.{ℕ, _+_, _-_, _*_, _^_, _≤_, _<_}
 use native.Mathlib.Nat.{mul-assoc, add-sub-of-le, sub-add-cancel, mul-le-mul-right, mul-lt-mul-of-pos-right}
 use native.Mathlib.Omega.{arith}
 use mathlib.Core.Bool.{Bool}
-use mathlib.Core.List.{[]}
+use mathlib.Core.List.{List, []}
 use lib.Pow.{pow-add, pow-pos, pow-mono}
 use Rattle.interval.specs.declared.Interval.{Interval}
 use Rattle.interval.specs.Interval.{decision, partOf, turns, coded}
@@ -26,6 +26,12 @@ unit-most t = pow-mono {i = 24 - t} {j = 24} (omega arith)
 
 pub low-fits : (w : Registers) → Fit w → w .interval .low < 33554432
 low-fits w f = omega (arith, f .under, unit-most (w .until))
+
+-- the bounds say nothing of the settled bytes
+pub ready-bare : (c : Coder) (xs ys : List ℕ) → Ready (lift c xs) → Ready (lift c ys)
+ready-bare c xs ys r =
+    let f : Fit (lift c xs) = r .rest .fit in
+    record { rest = record { fit = record { few = f .few; octet = f .octet; some = f .some; narrow = f .narrow; under = f .under }; wait = r .rest .wait }; wide = r .wide }
 
 module _ (r : Coder) (q : ℕ) (e : Bool) (ready : Ready (lift r [])) (some : 1 ≤ q) (small : q ≤ 0xAC1) where
   abbrev P : Interval

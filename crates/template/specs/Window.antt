@@ -83,6 +83,13 @@ pub slid-context : (above this : List ℕ) (x : ℕ) (w : Window) → Slid above
 unfolding context
 slid-context above this x w s = omega (arith, s .five, s .two)
 
+pub slid-small : (above this : List ℕ) (x : ℕ) (w : Window) → Bits above → Bits this → Slid above this x w → (w .above < 32) × (w .this < 4)
+unfolding rightOf
+slid-small above this x w a b s = (
+  omega (arith, s .five, a (x + 2), a (x + 1), a (x + 0), left-bit above x 1 a, left-bit above x 2 a),
+  omega (arith, s .two, left-bit this x 1 b, left-bit this x 2 b),
+)
+
 pub context-small : (above this : List ℕ) (x : ℕ) → Bits above → Bits this → context above this x < 128
 unfolding context rightOf
 context-small above this x a b =

@@ -1,0 +1,71 @@
+-- Document 01: a written band, from the page's working table and last row at that moment. Assumes nothing.
+use Prim.Native.Nat.{ℕ, _+_, _-_, _*_}
+use mathlib.Core.Bool.{Bool}
+use mathlib.Core.List.{List, [], _++_}
+use lib.ListN.{length, replicate}
+use lib.Dec.{ltb}
+use Rattle.coder.specs.Writing.{Writer, Model, Stage, after, opening, bandCode, bandCount, bandModel}
+use Rattle.coder.specs.Page.{Scheme, Page, page}
+use Rattle.estimate.specs.Estimate.{rowOf, next}
+use Rattle.interval.specs.Interval.{decision}
+use Rattle.octets.specs.Octets.{Registers, start, part, pel, code}
+use Rattle.template.specs.Pels.{rowBytes, pelsTo, rowAt, bandTo, context}
+
+-- ---- the limits
+-- Width 1 to 2,048. A band has 1 to 64 rows. A code has at most 32,768 bytes.
+abbrev pub maxWidth : ℕ
+maxWidth = 2048
+
+abbrev pub maxRows : ℕ
+maxRows = 64
+
+abbrev pub maxCode : ℕ
+maxCode = 32768
+
+-- the bytes that a page keeps of its last row
+abbrev pub lastBytes : ℕ
+lastBytes = rowBytes maxWidth
+
+-- ---- the Q-coder with our seven-pel template
+abbrev pub qScheme : Scheme
+qScheme = record { template = context; size = rowOf; next = next }
+
+-- there was a shift where the pel's part is below 1000 hex
+abbrev pub qWriter : Writer
+qWriter =
+    record {
+      State = Registers;
+      start = start;
+      put = λ q e w. pel (decision q e) w;
+      moves = λ q e w. ltb (part (decision q e) w .interval .width) 0x1000;
+      count = λ w. w .interval .count;
+      code = code;
+    }
+
+abbrev pub qPage : ℕ → Model
+qPage width = page qScheme width
+
+-- the page at the band's start: above its first row stands the last row
+abbrev pub pageAt : ℕ → List ℕ → List ℕ → Page
+pageAt width table last = record { table = table; above = pelsTo last width; this = [] }
+
+-- ---- a band as written: its code, S, the table after it, the last row after it (in the room that a page has for it)
+pub record Written : Type 0 where
+  pub code : List ℕ
+  pub shifts : ℕ
+  pub table : List ℕ
+  pub last : List ℕ
+
+unfoldable pub lastRow : ℕ → ℕ → List ℕ → List ℕ
+lastRow width rows band = rowAt width band (rows - 1) ++ replicate (lastBytes - rowBytes width) 0
+
+unfoldable pub written : ℕ → ℕ → List ℕ → List ℕ → List ℕ → Written
+written width rows table last band =
+    let m : Page = pageAt width table last in
+    let ps : List ℕ = bandTo width band rows in
+    record {
+      code = bandCode (qPage width) qWriter m ps;
+      shifts = bandCount (qPage width) qWriter m ps;
+      table = bandModel (qPage width) qWriter m ps .table;
+      last = lastRow width rows band;
+    }

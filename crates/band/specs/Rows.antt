@@ -1,0 +1,225 @@
+-- A row as the writer's loop meets it: after x pels the table, the registers, the window and the buffer are the definition's. Assumes nothing.
+use mathlib.Core.Path.{_≡_, refl, sym, ap, ap₂, _∙_, subst}
+use mathlib.Core.Logic.{_≢_}
+use Prim.Native.Nat.{ℕ, zero, suc, _+_, _-_, _*_, _%_, _≤_, _<_}
+use native.Mathlib.Nat.{add-assoc, add-zero}
+use native.Mathlib.Omega.{arith}
+use mathlib.Core.Bool.{Bool, true, false, cond}
+use mathlib.Core.List.{List, [], _∷_, _++_, append-assoc, append-nil}
+use lib.ListN.{getD, set, length, take, length-append, length-take}
+use lib.Seq.{set-getD}
+use lib.Dec.{ltb, eqb}
+use Rattle.ground.specs.Tests.{if-eq, if-ne}
+use Rattle.coder.specs.Writing.{Stage, step, after, after-append}
+use Rattle.coder.specs.Page.{Page, contextOf, entryAt, size, sense, taught, placed, move}
+use Rattle.estimate.specs.Estimate.{rowOf, next, LawfulEntry, LawfulTable}
+use Rattle.estimate.specs.Laws.{Sized, row-sized, next-lawful, set-lawful}
+use borrow.Author.Tests.{lt-ltb}
+use Rattle.interval.specs.Interval.{Decision, decision, partOf, turns}
+use Rattle.interval.specs.Growing.{turns-some}
+use Rattle.octets.specs.declared.Coder.{Coder}
+use Rattle.octets.specs.Octets.{Registers, part, pel}
+use Rattle.octets.specs.Fit.{Ready, ready-pel}
+use Rattle.octets.specs.Loops.{behind, behind-pel, pel-count}
+use Rattle.octets.specs.declared.Put.{Put}
+use Rattle.octets.specs.Lift.{lift, settledOf}
+use Rattle.octets.specs.OnePel.{ready-bare}
+use Rattle.store.specs.Store.{stores, stores-append, length-stores}
+use Rattle.template.specs.Pels.{pelAt, pelsTo, context}
+use Rattle.template.specs.declared.Window.{Window}
+use Rattle.template.specs.Window.{Slid, slid-next, slid-small, slid-context, length-pels, pels-bits, pel-bit}
+use Rattle.band.specs.declared.Pel.{Pel}
+use Rattle.band.specs.Band.{qScheme, qWriter, qPage}
+
+-- what the entry e decides of the pel p
+abbrev pub decided : ℕ → ℕ → Decision
+decided e p = decision (rowOf e) (eqb p (e % 2))
+
+-- ---- one pel: the registers, the entry, the bytes settled
+abbrev pub bytesOf : Pel → List ℕ
+bytesOf v = take (v .settled) (v .first ∷ v .second ∷ [])
+
+abbrev pub shiftedBy : Coder → ℕ → ℕ → Bool
+shiftedBy c e p = ltb (part (decided e p) (lift c []) .interval .width) 0x1000
+
+pub record Pelled (c : Coder) (e p : ℕ) (v : Pel) : Type 0 where
+  pub registers : pel (decided e p) (lift c []) ≡ lift (v .coder) (bytesOf v)
+  pub entry : v .entry ≡ cond (shiftedBy c e p) (next (eqb p (e % 2)) e) e
+  pub few : v .settled ≤ 2
+
+-- from what the octets say of a pel
+module _ (c : Coder) (e p : ℕ) (u : Put) (registers : pel (decided e p) (lift c []) ≡ lift (u .coder) (settledOf u)) (few : u .settled ≤ 2)
+    (shifts : u .shifts ≡ turns 12 (partOf (decided e p) (c .interval) .width)) where
+  moved-by : shiftedBy c e p ≡ ltb 0 (u .shifts)
+  moved-by = sym (turns-some 11 (partOf (decided e p) (c .interval) .width)) ∙ ap (ltb 0) (sym shifts)
+
+  pub pelled-still : u .shifts ≡ 0 → Pelled c e p (record { coder = u .coder; entry = e; settled = u .settled; first = u .first; second = u .second })
+  pelled-still z = record { registers = registers; entry = rw (moved-by, z); few = few }
+
+  pub pelled-moved : (u .shifts ≡ 0 → ⊥) → (n : ℕ) → n ≡ next (eqb p (e % 2)) e → Pelled c e p (record { coder = u .coder; entry = n; settled = u .settled; first = u .first; second = u .second })
+  pelled-moved z n k = record { registers = registers; entry = rw (moved-by, lt-ltb 0 (u .shifts) (omega arith)) k; few = few }
+
+pub pelled-ready : (c : Coder) (e p : ℕ) (v : Pel) → Ready (lift c []) → Pelled c e p v → Ready (lift (v .coder) [])
+pelled-ready c e p v r k =
+    ready-bare (v .coder) (bytesOf v) [] (subst Ready (k .registers) (ready-pel (decided e p) (lift c []) r (record { some = row-sized e .some; small = row-sized e .small })))
+
+pub pelled-count : (c : Coder) (e p : ℕ) (v : Pel) → Pelled c e p v → v .coder .interval .count ≤ c .interval .count + 12
+pelled-count c e p v k = subst (λ (w : Registers). w .interval .count ≤ c .interval .count + 12) (k .registers) (pel-count (decided e p) (lift c []))
+
+pub pelled-lawful : (c : Coder) (e p : ℕ) (v : Pel) → LawfulEntry e → Pelled c e p v → LawfulEntry (v .entry)
+pelled-lawful c e p v l k =
+    subst LawfulEntry (sym (k .entry)) (Rattle.ground.specs.Tests.by-cond LawfulEntry (shiftedBy c e p) (next (eqb p (e % 2)) e) e (λ t. next-lawful (eqb p (e % 2)) e l) (λ t. l))
+
+-- the bytes before stay before
+lift-behind : (c : Coder) (xs : List ℕ) → lift c xs ≡ behind xs (lift c [])
+lift-behind c xs = λ i. record { interval = c .interval; until = c .until; held = c .held; settled = sym (append-nil xs) i }
+
+pelled-after : (c : Coder) (e p : ℕ) (v : Pel) (xs : List ℕ) → Pelled c e p v → pel (decided e p) (lift c xs) ≡ lift (v .coder) (xs ++ bytesOf v)
+pelled-after c e p v xs k = ap (pel (decided e p)) (lift-behind c xs) ∙ behind-pel (decided e p) xs (lift c []) ∙ ap (behind xs) (k .registers)
+
+-- ---- a row
+module _ (width : ℕ) where
+  abbrev pub stageOf : Page → Registers → Stage (qPage width) qWriter
+  stageOf m w = record { model = m; writer = w }
+
+  abbrev pub pageOf : List ℕ → List ℕ → List ℕ → Page
+  pageOf table above this = placed qScheme width table above this
+
+  abbrev pub through : Stage (qPage width) qWriter → List ℕ → Stage (qPage width) qWriter
+  through s ps = after (qPage width) qWriter s ps
+
+  -- within the row no row is full
+  page-within : (table above this : List ℕ) → length this < width → pageOf table above this ≡ record { table = table; above = above; this = this }
+  unfolding placed
+  page-within table above this h = if-ne (length this) width _ _ (λ e. omega arith)
+
+  pub page-full : (table above this : List ℕ) → length this ≡ width → pageOf table above this ≡ record { table = table; above = this; this = [] }
+  unfolding placed
+  page-full table above this h = if-eq (length this) width _ _ h
+
+  -- one step within a row
+  module _ (table above this : List ℕ) (c : Coder) (xs : List ℕ) (p : ℕ) (v : Pel) where
+    abbrev cx : ℕ
+    cx = context above this (length this)
+
+    abbrev e : ℕ
+    e = getD table cx 0
+
+    taught-set : v .entry ≡ cond (shiftedBy c e p) (next (eqb p (e % 2)) e) e
+        → cond (shiftedBy c e p) (set table cx (next (eqb p (e % 2)) e)) table ≡ set table cx (v .entry)
+    taught-set k = go (shiftedBy c e p) (v .entry) k
+      where
+        go : (b : Bool) (n : ℕ) → n ≡ cond b (next (eqb p (e % 2)) e) e → cond b (set table cx (next (eqb p (e % 2)) e)) table ≡ set table cx n
+        go true n k = ap (set table cx) (sym k)
+        go false n k = sym (set-getD table cx 0) ∙ ap (set table cx) (sym k)
+
+    step-within : length this < width → Pelled c e p v
+        → step (qPage width) qWriter (stageOf (pageOf table above this) (lift c xs)) p ≡ stageOf (pageOf (set table cx (v .entry)) above (this ++ (p ∷ []))) (lift (v .coder) (xs ++ bytesOf v))
+    unfolding size sense entryAt contextOf move taught
+    step-within h k =
+        ap (λ (m : Page). step (qPage width) qWriter (stageOf m (lift c xs)) p) (page-within table above this h)
+        ∙ ap₂ (λ (t : List ℕ) (w : Registers). stageOf (pageOf t above (this ++ (p ∷ []))) w) (taught-set (k .entry)) (pelled-after c e p v xs k)
+
+  -- ---- the loop
+  module _ (above row t₀ : List ℕ) (c₀ : Coder) (out₀ : List ℕ) (at₀ : ℕ) where
+    abbrev begun : Stage (qPage width) qWriter
+    begun = stageOf (pageOf t₀ above []) (lift c₀ [])
+
+    pub record RowAt (t : List ℕ) (c : Coder) (w : Window) (out : List ℕ) (at x : ℕ) : Type 0 where
+      pub settled : List ℕ
+      pub stage : through begun (pelsTo row x) ≡ stageOf (pageOf t above (pelsTo row x)) (lift c settled)
+      pub stored : out ≡ stores out₀ at₀ settled
+      pub place : at ≡ at₀ + length settled
+      pub few : length settled ≤ 2 * x
+      pub slid : Slid above (pelsTo row x) x w
+      pub lawful : LawfulTable t
+      pub ready : Ready (lift c [])
+      pub count : c .interval .count ≤ c₀ .interval .count + 12 * x
+      pub passed : x ≤ width
+
+    pub row-start : (w : Window) → Slid above [] 0 w → LawfulTable t₀ → Ready (lift c₀ []) → RowAt t₀ c₀ w out₀ at₀ 0
+    unfolding pelsTo after stores
+    row-start w s l r =
+        record { settled = []; stage = refl; stored = refl; place = omega arith; few = omega arith; slid = s; lawful = l; ready = r; count = omega arith; passed = omega arith }
+
+    few-bytes : (v : Pel) → v .settled ≤ 2 → length (bytesOf v) ≡ v .settled
+    few-bytes v h = length-take (v .settled) (v .first ∷ v .second ∷ []) ∙ omega arith
+
+    -- the window one place on
+    slides : (w w′ : Window) (x p : ℕ) → Slid above (pelsTo row x) x w → ((y : ℕ) → getD above y 0 ≤ 1) → p ≤ 1
+        → w′ .above ≡ (2 * w .above + getD above (x + 3) 0) % 32 → w′ .this ≡ (2 * w .this + p) % 4 → Slid above (pelsTo row x ++ (p ∷ [])) (suc x) w′
+    slides w w′ x p s b h wa wt =
+        let l : length (pelsTo row x) ≡ x = length-pels row x in
+        let n = subst (λ (k : ℕ). Slid above (pelsTo row x ++ (p ∷ [])) (suc k) (record { above = (2 * w .above + getD above (k + 3) 0) % 32; this = (2 * w .this + p) % 4 })) l
+        (slid-next above (pelsTo row x) p w b (pels-bits row x) h (subst (λ (k : ℕ). Slid above (pelsTo row x) k w) (sym l) s)) in
+        record { five = wa ∙ n .five; two = wt ∙ n .two }
+
+    -- a pel p more, in the context cx
+    module _ (t : List ℕ) (c : Coder) (w : Window) (out : List ℕ) (at x : ℕ) (v : Pel) (r : RowAt t c w out at x) (h : x < width) where
+      abbrev this : List ℕ
+      this = pelsTo row x
+
+      again-stage : (cx p : ℕ) → cx ≡ context above this x → Pelled c (getD t cx 0) p v
+          → through begun (this ++ (p ∷ [])) ≡ stageOf (pageOf (set t cx (v .entry)) above (this ++ (p ∷ []))) (lift (v .coder) (r .settled ++ bytesOf v))
+      unfolding after
+      again-stage cx p ec k =
+          let l : length this ≡ x = length-pels row x in
+          let ec′ : cx ≡ context above this (length this) = ec ∙ ap (context above this) (sym l) in
+          after-append (qPage width) qWriter this (p ∷ []) begun ∙ ap (λ (s : Stage (qPage width) qWriter). step (qPage width) qWriter s p) (r .stage)
+          ∙ step-within t above this c (r .settled) p v (omega arith) (subst (λ (z : ℕ). Pelled c (getD t z 0) p v) ec′ k)
+          ∙ ap (λ (z : ℕ). stageOf (pageOf (set t z (v .entry)) above (this ++ (p ∷ []))) (lift (v .coder) (r .settled ++ bytesOf v))) (sym ec′)
+
+      pub row-again : (cx p : ℕ) (w′ : Window) (out′ : List ℕ) (at′ : ℕ)
+          → ((y : ℕ) → getD above y 0 ≤ 1) → cx ≡ context above this x → p ≡ pelAt row x → Pelled c (getD t cx 0) p v
+          → w′ .above ≡ (2 * w .above + getD above (x + 3) 0) % 32 → w′ .this ≡ (2 * w .this + p) % 4
+          → out′ ≡ stores out at (bytesOf v) → at′ ≡ at + v .settled
+          → RowAt (set t cx (v .entry)) (v .coder) w′ out′ at′ (suc x)
+      unfolding pelsTo
+      row-again cx p w′ out′ at′ b ec ep k wa wt eo ea =
+          let n : length (bytesOf v) ≡ v .settled = few-bytes v (k .few) in
+          let m : length (r .settled ++ bytesOf v) ≡ length (r .settled) + length (bytesOf v) = length-append (r .settled) (bytesOf v) in
+          record {
+            settled = r .settled ++ bytesOf v;
+            stage = subst (λ (z : ℕ). through begun (this ++ (z ∷ [])) ≡ stageOf (pageOf (set t cx (v .entry)) above (this ++ (z ∷ []))) (lift (v .coder) (r .settled ++ bytesOf v))) ep (again-stage cx p ec k);
+            stored = eo ∙ ap₂ (λ (o : List ℕ) (a : ℕ). stores o a (bytesOf v)) (r .stored) (r .place) ∙ stores-append out₀ at₀ (r .settled) (bytesOf v);
+            place = omega (arith, r .place);
+            few = omega (arith, r .few, k .few);
+            slid = subst (λ (z : ℕ). Slid above (this ++ (z ∷ [])) (suc x) w′) ep (slides w w′ x p (r .slid) b (subst (λ (z : ℕ). z ≤ 1) (sym ep) (pel-bit row x)) wa wt);
+            lawful = set-lawful t cx (v .entry) (r .lawful) (pelled-lawful c (getD t cx 0) p v (r .lawful cx) k);
+            ready = pelled-ready c (getD t cx 0) p v (r .ready) k;
+            count = omega (arith, r .count, pelled-count c (getD t cx 0) p v k);
+            passed = h;
+          }
+
+    -- the numbers in the loop
+    pub row-window : (t : List ℕ) (c : Coder) (w : Window) (out : List ℕ) (at x : ℕ) → ((y : ℕ) → getD above y 0 ≤ 1) → RowAt t c w out at x → (w .above < 32) × (w .this < 4)
+    row-window t c w out at x b r = slid-small above (pelsTo row x) x w b (pels-bits row x) (r .slid)
+
+    pub row-length : (t : List ℕ) (c : Coder) (w : Window) (out : List ℕ) (at x : ℕ) → RowAt t c w out at x → length out ≡ length out₀
+    row-length t c w out at x r = ap length (r .stored) ∙ length-stores out₀ at₀ (r .settled)
+
+    -- the whole row
+    pub record RowDone (t : List ℕ) (c : Coder) (out : List ℕ) (at : ℕ) : Type 0 where
+      pub settled : List ℕ
+      pub stage : through begun (pelsTo row width) ≡ stageOf (record { table = t; above = pelsTo row width; this = [] }) (lift c settled)
+      pub stored : out ≡ stores out₀ at₀ settled
+      pub place : at ≡ at₀ + length settled
+      pub few : length settled ≤ 2 * width
+      pub lawful : LawfulTable t
+      pub ready : Ready (lift c [])
+      pub count : c .interval .count ≤ c₀ .interval .count + 12 * width
+
+    pub row-done : (t : List ℕ) (c : Coder) (w : Window) (out : List ℕ) (at x : ℕ) → RowAt t c w out at x → x ≡ width → RowDone t c out at
+    row-done t c w out at x r e =
+        let s : through begun (pelsTo row width) ≡ stageOf (pageOf t above (pelsTo row width)) (lift c (r .settled))
+        = subst (λ (n : ℕ). through begun (pelsTo row n) ≡ stageOf (pageOf t above (pelsTo row n)) (lift c (r .settled))) e (r .stage) in
+        record {
+          settled = r .settled;
+          stage = s ∙ ap (λ (m : Page). stageOf m (lift c (r .settled))) (page-full t above (pelsTo row width) (length-pels row width));
+          stored = r .stored;
+          place = r .place;
+          few = omega (arith, r .few);
+          lawful = r .lawful;
+          ready = r .ready;
+          count = omega (arith, r .count);
+        }

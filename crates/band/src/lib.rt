@@ -1,0 +1,84 @@
+// Bands: written into a lent buffer.
+ghost use mathlib.Core.Path.{_≡_};
+ghost use mathlib.Core.List.{[]};
+ghost use Prim.Native.Nat.{ℕ, _+_, _*_, _≤_, _<_, _^_};
+ghost use lib.ListN.{length};
+ghost use Rattle.estimate.specs.Estimate.{LawfulEntry, LawfulTable};
+ghost use Rattle.octets.specs.Fit.{Ready};
+ghost use Rattle.octets.specs.Lift.{lift};
+ghost use Rattle.template.specs.Pels.{pelsTo};
+ghost use Rattle.band.specs.Rows.{Pelled, RowDone};
+use estimate::Table;
+use octets::Coder;
+use template::Window;
+
+// What a pel gives: the registers, its context's entry, and the bytes settled, two at the most.
+pub struct Pel {
+    pub coder: Coder,
+    pub entry: u8,
+    pub settled: usize,
+    pub first: u8,
+    pub second: u8,
+}
+
+// Where a band stands: the registers, the table, and the bytes settled so far.
+pub struct Run {
+    pub coder: Coder,
+    pub table: Table,
+    pub at: usize,
+}
+
+// One pel, in the context whose entry is e.
+pub fn put_pel(coder: Coder, e: u8, p: u8) -> Pel
+    requires { ⌜ Ready (lift coder []) × LawfulEntry e × (coder .interval .count < 2 ^ 32) ⌝ }
+    ensures { λ r. ⌜ Pelled coder e p r ⌝ }
+{
+    let expected = p == e % 2;
+    let v = coder.pel(estimate::row_of(e), expected);
+    let next = v.coder;
+    if v.shifts == 0 {
+        return Pel {
+            coder: next,
+            entry: e,
+            settled: v.settled,
+            first: v.first,
+            second: v.second,
+        };
+    }
+    let entry = estimate::next_entry(e, expected);
+    Pel {
+        coder: next,
+        entry: entry,
+        settled: v.settled,
+        first: v.first,
+        second: v.second,
+    }
+}
+
+// One row, under the row above it.
+pub fn write_row(row: &[u8], above: &[u8], width: usize, start: Run, out: &mut [u8]) -> Run
+    requires { ⌜ (width ≤ 2048) × (width ≤ 8 * length (now row)) × (width ≤ 8 * length (now above)) × (1 ≤ width) × LawfulTable (start .table .entries) × Ready (lift (start .coder) []) × (start .coder .interval .count < 2 ^ 31) × (start .at < 800000000) ⌝ }
+    ensures { λ r. ⌜ RowDone width (pelsTo (now (above .entry)) width) (now (row .entry)) (start .table .entries) (start .coder) (now (out .entry)) (start .at) (r .table .entries) (r .coder) (now (out .exit)) (r .at) ⌝ }
+{
+    let mut coder = start.coder;
+    let mut table = start.table;
+    let mut at = start.at;
+    let mut window = Window::start(above, width);
+    let mut x: usize = 0;
+    while x < width {
+        let p = template::pel_at(row, x);
+        let cx = 4 * window.above + window.this;
+        let e = table.entries[cx];
+        let v = put_pel(coder, e, p);
+        table.entries[cx] = v.entry;
+        coder = v.coder;
+        at = store::put_two(out, at, v.settled, v.first, v.second);
+        window = window.slide(above, width, x, p);
+        x += 1;
+    }
+    Run {
+        coder: coder,
+        table: table,
+        at: at,
+    }
+}
