@@ -1,2 +1,3 @@
 pub mod Band
 pub mod Rows
+pub mod Bands

@@ -71,7 +71,7 @@ pelled-lawful c e p v l k =
     subst LawfulEntry (sym (k .entry)) (Rattle.ground.specs.Tests.by-cond LawfulEntry (shiftedBy c e p) (next (eqb p (e % 2)) e) e (λ t. next-lawful (eqb p (e % 2)) e l) (λ t. l))
 
 -- the bytes before stay before
-lift-behind : (c : Coder) (xs : List ℕ) → lift c xs ≡ behind xs (lift c [])
+pub lift-behind : (c : Coder) (xs : List ℕ) → lift c xs ≡ behind xs (lift c [])
 lift-behind c xs = λ i. record { interval = c .interval; until = c .until; held = c .held; settled = sym (append-nil xs) i }
 
 pelled-after : (c : Coder) (e p : ℕ) (v : Pel) (xs : List ℕ) → Pelled c e p v → pel (decided e p) (lift c xs) ≡ lift (v .coder) (xs ++ bytesOf v)
@@ -89,7 +89,7 @@ module _ (width : ℕ) where
   through s ps = after (qPage width) qWriter s ps
 
   -- within the row no row is full
-  page-within : (table above this : List ℕ) → length this < width → pageOf table above this ≡ record { table = table; above = above; this = this }
+  pub page-within : (table above this : List ℕ) → length this < width → pageOf table above this ≡ record { table = table; above = above; this = this }
   unfolding placed
   page-within table above this h = if-ne (length this) width _ _ (λ e. omega arith)
 
@@ -122,7 +122,7 @@ module _ (width : ℕ) where
 
   -- ---- the loop
   module _ (above row t₀ : List ℕ) (c₀ : Coder) (out₀ : List ℕ) (at₀ : ℕ) where
-    abbrev begun : Stage (qPage width) qWriter
+    abbrev pub begun : Stage (qPage width) qWriter
     begun = stageOf (pageOf t₀ above []) (lift c₀ [])
 
     pub record RowAt (t : List ℕ) (c : Coder) (w : Window) (out : List ℕ) (at x : ℕ) : Type 0 where

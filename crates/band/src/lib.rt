@@ -1,13 +1,14 @@
 // Bands: written into a lent buffer.
 ghost use mathlib.Core.Path.{_≡_};
 ghost use mathlib.Core.List.{[]};
-ghost use Prim.Native.Nat.{ℕ, _+_, _*_, _≤_, _<_, _^_};
+ghost use Prim.Native.Nat.{ℕ, _+_, _-_, _*_, _≤_, _<_, _^_};
 ghost use lib.ListN.{length};
 ghost use Rattle.estimate.specs.Estimate.{LawfulEntry, LawfulTable};
 ghost use Rattle.octets.specs.Fit.{Ready};
 ghost use Rattle.octets.specs.Lift.{lift};
-ghost use Rattle.template.specs.Pels.{pelsTo};
+ghost use Rattle.template.specs.Pels.{pelsTo, rowAt, rowBytes};
 ghost use Rattle.band.specs.Rows.{Pelled, RowDone};
+ghost use Rattle.band.specs.Bands.{BandAt};
 use estimate::Table;
 use octets::Coder;
 use template::Window;
@@ -26,6 +27,15 @@ pub struct Run {
     pub coder: Coder,
     pub table: Table,
     pub at: usize,
+}
+
+// What writing a band gives: whether there was room, n, S, and the table and last row after it.
+pub struct Wrote {
+    pub room: bool,
+    pub length: usize,
+    pub shifts: u64,
+    pub table: Table,
+    pub last: [u8; 256],
 }
 
 // One pel, in the context whose entry is e.
@@ -81,4 +91,33 @@ pub fn write_row(row: &[u8], above: &[u8], width: usize, start: Run, out: &mut [
         table: table,
         at: at,
     }
+}
+
+// The row y of a band, under the row before it.
+pub fn write_next(pels: &[u8], y: usize, width: usize, run: Run, out: &mut [u8]) -> Run
+    requires { ⌜ (1 ≤ width) × (width ≤ 2048) × (1 ≤ y) × (y < 64) × (y * rowBytes width + rowBytes width ≤ length (now pels)) × LawfulTable (run .table .entries) × Ready (lift (run .coder) []) × (run .coder .interval .count < 2 ^ 31) × (run .at < 800000000) ⌝ }
+    ensures { λ r. ⌜ RowDone width (pelsTo (rowAt width (now (pels .entry)) (y - 1)) width) (rowAt width (now (pels .entry)) y) (run .table .entries) (run .coder) (now (out .entry)) (run .at) (r .table .entries) (r .coder) (now (out .exit)) (r .at) ⌝ }
+{
+    let bytes = template::row_bytes(width);
+    let from = y * bytes;
+    let row = &pels[from..from + bytes];
+    let above = &pels[from - bytes..from];
+    write_row(row, above, width, run, out)
+}
+
+// The rows of a band, the first under the page's last row.
+pub fn write_rows(pels: &[u8], last: [u8; 256], width: usize, rows: usize, table: Table, out: &mut [u8]) -> Run
+    requires { ⌜ (1 ≤ width) × (width ≤ 2048) × (1 ≤ rows) × (rows ≤ 64) × (length (now pels) ≡ rows * rowBytes width) × LawfulTable (table .entries) ⌝ }
+    ensures { λ r. ⌜ BandAt width last (now (pels .entry)) (table .entries) (now (out .entry)) (rowAt width (now (pels .entry)) (rows - 1)) (r .table .entries) (r .coder) (now (out .exit)) (r .at) rows ⌝ }
+{
+    let bytes = template::row_bytes(width);
+    let coder = Coder::start();
+    let begun = Run { coder: coder, table: table, at: 0 };
+    let mut run = write_row(&pels[..bytes], &last, width, begun, out);
+    let mut y: usize = 1;
+    while y < rows {
+        run = write_next(pels, y, width, run, out);
+        y += 1;
+    }
+    run
 }

@@ -102,7 +102,7 @@ unfolding cover
 cover-none zero w = refl
 cover-none (suc k) w = refl
 
-bytes-behind : (xs : List ℕ) (w : Registers) → bytes (behind xs w) ≡ xs ++ bytes w
+pub bytes-behind : (xs : List ℕ) (w : Registers) → bytes (behind xs w) ≡ xs ++ bytes w
 unfolding bytes
 bytes-behind xs w = append-assoc xs (w .settled) (w .held ∷ [])
 

@@ -1,5 +1,5 @@
 -- Lent buffers: a result in the front, the rest kept; all zero; the front part. Assumes nothing.
-use mathlib.Core.Path.{_≡_, refl, sym, ap, _∙_}
+use mathlib.Core.Path.{_≡_, refl, sym, ap, ap₂, _∙_}
 use Prim.Native.Nat.{ℕ, zero, suc, _+_, _-_, _≤_, _<_}
 use native.Mathlib.Nat.{add-zero, add-suc, suc-add, zero-add}
 use native.Mathlib.Numerals.{add-one}
@@ -7,8 +7,8 @@ use native.Mathlib.Omega.{arith}
 use mathlib.Core.Bool.{Bool, true, false, cond}
 use mathlib.Core.List.{List, [], _∷_, _++_}
 use lib.Dec.{leb}
-use lib.ListN.{length, take, drop, set, replicate, length-append, length-drop, length-set}
-use lib.Seq.{sets, sets-eq, length-sets}
+use lib.ListN.{length, getD, take, drop, set, replicate, length-append, length-drop, length-set}
+use lib.Seq.{length-take-le, take-suc, sets, sets-eq, length-sets}
 
 -- a result in the front part of a buffer, the rest kept
 unfoldable pub inFront : List ℕ → List ℕ → List ℕ
@@ -45,6 +45,14 @@ pub stores-append : (out : List ℕ) (at : ℕ) (xs ys : List ℕ) → stores (s
 unfolding stores
 stores-append out at [] ys = ap (λ (k : ℕ). stores out k ys) (add-zero at)
 stores-append out at (x ∷ xs) ys = ap (λ (k : ℕ). stores (stores (storeAt out at x) (suc at) xs) k ys) (add-suc at (length xs) ∙ sym (suc-add at (length xs))) ∙ stores-append (storeAt out at x) (suc at) xs ys
+
+-- one byte more of a list that is stored from its front
+pub stores-next : (out₀ xs out : List ℕ) (at next i : ℕ) → i < length xs → out ≡ stores out₀ at (take i xs) → next ≡ at + i → storeAt out next (getD xs i 0) ≡ stores out₀ at (take (suc i) xs)
+unfolding stores
+stores-next out₀ xs out at next i h e f =
+    let l : length (take i xs) ≡ i = length-take-le i xs (omega arith) in
+    ap₂ (λ (o : List ℕ) (n : ℕ). storeAt o n (getD xs i 0)) e (f ∙ ap (λ (k : ℕ). at + k) (sym l)) ∙ stores-append out₀ at (take i xs) (getD xs i 0 ∷ [])
+    ∙ ap (stores out₀ at) (sym (take-suc xs i 0 h))
 
 pub length-stores : (out : List ℕ) (at : ℕ) (xs : List ℕ) → length (stores out at xs) ≡ length out
 unfolding stores storeAt

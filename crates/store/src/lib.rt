@@ -46,6 +46,20 @@ pub fn put_two(out: &mut [u8], at: usize, n: usize, first: u8, second: u8) -> us
     put(out, next, second)
 }
 
+// The first n of the last bytes.
+pub fn put_last(out: &mut [u8], at: usize, bytes: [u8; 5], n: usize) -> usize
+    requires { ⌜ (at < 900000000) × (n ≤ 5) ⌝ }
+    ensures { λ r. ⌜ (r ≡ at + n) × (now (out .exit) ≡ stores (now (out .entry)) at (take n bytes)) ⌝ }
+{
+    let mut next = at;
+    let mut i: usize = 0;
+    while i < n {
+        next = put(out, next, bytes[i]);
+        i += 1;
+    }
+    next
+}
+
 // The front part of the caller's own buffer: its first n bytes, or the empty part where n is more than its length.
 pub fn front_of(buf: &[u8], n: usize) -> &[u8]
     ensures { λ r. ⌜ now r ≡ front n (now (buf .entry)) ⌝ }
