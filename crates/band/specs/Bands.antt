@@ -10,6 +10,8 @@ use lib.ListN.{getD, length, take, drop, length-append, length-take, length-drop
 use lib.Dec.{ltb, leb, eqb}
 use Rattle.coder.specs.Writing.{Stage, step, after, after-append, bandCode, bandCount, bandModel}
 use Rattle.coder.specs.Page.{Page, size, sense, move, placed}
+use borrow.Author.Tests.{leb-true}
+use Rattle.estimate.specs.declared.Table.{Table}
 use Rattle.estimate.specs.Estimate.{LawfulTable}
 use Rattle.interval.specs.Interval.{decision}
 use Rattle.octets.specs.declared.Coder.{Coder}
@@ -22,7 +24,7 @@ use Rattle.octets.specs.Ending.{bytes-behind}
 use Rattle.store.specs.Store.{stores, stores-append, stores-fit, length-stores, inFront, cleared}
 use Rattle.template.specs.Pels.{pelsTo, rowAt, rowBytes, bandTo}
 use Rattle.band.specs.declared.Run.{Run}
-use Rattle.band.specs.Band.{qScheme, qWriter, qPage, pageAt, written, lastRow, hasRoom, maxCode}
+use Rattle.band.specs.Band.{qScheme, qWriter, qPage, pageAt, Written, written, lastRow, hasRoom, maxCode, wroteAnswer, wroteOut}
 use Rattle.band.specs.Rows.{stageOf, pageOf, through, RowDone, lift-behind, page-within}
 
 module _ (width : ℕ) where
@@ -95,6 +97,14 @@ module _ (width : ℕ) where
             count = omega (arith, r .count, b .count) }
 
 -- ---- the end of a band
+both-left : (x y : Bool) → (x && y) ≡ true → x ≡ true
+both-left true y e = refl
+both-left false y e = e
+
+written-last : (width rows : ℕ) (t last band : List ℕ) → written width rows t last band .last ≡ lastRow width rows band
+unfolding written
+written-last width rows t last band = refl
+
 module _ (width rows : ℕ) (last band t₀ out₀ above t : List ℕ) (c : Coder) (out : List ℕ) (at : ℕ) (b : BandAt width last band t₀ out₀ above t c out at rows)
     (lasts : List ℕ) (e : lasts ≡ bytes (finish (lift c []))) where
   -- every byte, the zero before the code first
@@ -117,6 +127,42 @@ module _ (width rows : ℕ) (last band t₀ out₀ above t : List ℕ) (c : Code
   pub end-table : written width rows t₀ last band .table ≡ t
   unfolding written
   end-table = ap (λ (s : Stage (qPage width) qWriter). s .model .table) (b .stage)
+
+  -- the last bytes are stored: n₁ in all
+  module _ (out₁ : List ℕ) (n₁ : ℕ) (stored : out₁ ≡ stores out at lasts) (place : n₁ ≡ at + length lasts) where
+    abbrev W : Written
+    W = written width rows t₀ last band
+
+    end-length : n₁ - 1 ≡ length (W .code)
+    end-length = sym (ap length end-code ∙ length-drop 1 all ∙ ap (λ (k : ℕ). k - 1) (length-append (b .settled) lasts ∙ ap (λ (k : ℕ). k + length lasts) (sym (b .place)) ∙ sym place))
+
+    end-stored : out₁ ≡ stores out₀ 0 all
+    end-stored = stored ∙ ap₂ (λ (o : List ℕ) (k : ℕ). stores o k lasts) (b .stored) (b .place ∙ sym (zero-add (length (b .settled)))) ∙ stores-append out₀ 0 (b .settled) lasts
+
+    pub end-same : length out₁ ≡ length out₀
+    end-same = ap length end-stored ∙ length-stores out₀ 0 all
+
+    room-is : hasRoom (W .code) out₀ ≡ (leb (n₁ - 1) (length out₁) && leb (n₁ - 1) maxCode)
+    unfolding hasRoom
+    room-is = rw (end-length, end-same)
+
+    pub with-room : (leb (n₁ - 1) (length out₁) && leb (n₁ - 1) maxCode) ≡ true → (table : Table) (row : List ℕ) → row ≡ lastRow width rows band
+        → (record { room = true; length = n₁ - 1; shifts = c .interval .count; table = record { entries = t }; last = row } ≡ wroteAnswer W table last out₀) × (out₁ ≡ wroteOut W out₀)
+    unfolding wroteAnswer wroteOut
+    with-room h table row r =
+        let k : hasRoom (W .code) out₀ ≡ true = room-is ∙ h in
+        ( rw k (λ i. record { room = true; length = end-length i; shifts = sym end-shifts i; table = record { entries = sym end-table i }; last = last-is r i })
+        , rw k (end-stored ∙ stores-fit out₀ all (subst (λ (x : ℕ). x ≤ length out₀) (end-length ∙ ap length end-code) (omega (arith, end-same, leb-true (n₁ - 1) (length out₁) (left-of h)))) ∙ ap (λ (x : List ℕ). inFront x out₀) (sym end-code)) )
+      where
+        last-is : row ≡ lastRow width rows band → row ≡ W .last
+        last-is r = r ∙ sym (written-last width rows t₀ last band)
+        left-of : (leb (n₁ - 1) (length out₁) && leb (n₁ - 1) maxCode) ≡ true → leb (n₁ - 1) (length out₁) ≡ true
+        left-of h = both-left (leb (n₁ - 1) (length out₁)) (leb (n₁ - 1) maxCode) h
+
+    pub without-room : (leb (n₁ - 1) (length out₁) && leb (n₁ - 1) maxCode) ≡ false → (table : Table)
+        → (record { room = false; length = 0; shifts = 0; table = table; last = last } ≡ wroteAnswer W table last out₀) × (cleared out₁ ≡ wroteOut W out₀)
+    unfolding wroteAnswer wroteOut cleared
+    without-room h table = let k : hasRoom (W .code) out₀ ≡ false = room-is ∙ h in (rw k, rw (k, end-same))
 
 -- ---- the rows as parts of a band
 module _ (width : ℕ) (band : List ℕ) (bytes′ : ℕ) (is : bytes′ ≡ rowBytes width) where

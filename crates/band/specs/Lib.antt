@@ -1,3 +1,4 @@
 pub mod Band
 pub mod Rows
 pub mod Bands
+pub mod LastRow

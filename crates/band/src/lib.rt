@@ -2,16 +2,22 @@
 ghost use mathlib.Core.Path.{_≡_};
 ghost use mathlib.Core.List.{[]};
 ghost use Prim.Native.Nat.{ℕ, _+_, _-_, _*_, _≤_, _<_, _^_};
+ghost use mathlib.Core.Bool.{_&&_};
+ghost use lib.Dec.{leb};
 ghost use lib.ListN.{length};
 ghost use Rattle.estimate.specs.Estimate.{LawfulEntry, LawfulTable};
 ghost use Rattle.octets.specs.Fit.{Ready};
 ghost use Rattle.octets.specs.Lift.{lift};
 ghost use Rattle.template.specs.Pels.{pelsTo, rowAt, rowBytes};
+ghost use Rattle.band.specs.Band.{maxCode, written, lastRow, wroteAnswer, wroteOut};
 ghost use Rattle.band.specs.Rows.{Pelled, RowDone};
 ghost use Rattle.band.specs.Bands.{BandAt};
 use estimate::Table;
 use octets::Coder;
 use template::Window;
+
+// No code is longer.
+pub const MAX_CODE: usize = 32768;
 
 // What a pel gives: the registers, its context's entry, and the bytes settled, two at the most.
 pub struct Pel {
@@ -120,4 +126,48 @@ pub fn write_rows(pels: &[u8], last: [u8; 256], width: usize, rows: usize, table
         y += 1;
     }
     run
+}
+
+// The last row of a band, in the room that a page has for it.
+pub fn last_row(pels: &[u8], width: usize, rows: usize) -> [u8; 256]
+    requires { ⌜ (1 ≤ width) × (width ≤ 2048) × (1 ≤ rows) × (rows ≤ 64) × (length (now pels) ≡ rows * rowBytes width) ⌝ }
+    ensures { λ r. ⌜ r ≡ lastRow width rows (now (pels .entry)) ⌝ }
+{
+    let bytes = template::row_bytes(width);
+    let from = (rows - 1) * bytes;
+    let mut row = [0u8; 256];
+    let mut i: usize = 0;
+    while i < bytes {
+        row[i] = pels[from + i];
+        i += 1;
+    }
+    row
+}
+
+// No room: the code is longer than the buffer or than the limit.
+pub fn has_room(n: usize, len: usize) -> bool
+    ensures { λ r. ⌜ r ≡ (leb n len && leb n maxCode) ⌝ }
+{
+    if n <= len { n <= MAX_CODE } else { false }
+}
+
+// A band into a lent buffer: its code in front and the rest kept, or all zero where there is no room.
+pub fn write_band(table: Table, last: [u8; 256], width: usize, rows: usize, pels: &[u8], out: &mut [u8]) -> Wrote
+    requires { ⌜ (1 ≤ width) × (width ≤ 2048) × (1 ≤ rows) × (rows ≤ 64) × (length (now pels) ≡ rows * rowBytes width) × LawfulTable (table .entries) ⌝ }
+    ensures { λ r. ⌜ (r ≡ wroteAnswer (written width rows (table .entries) last (now (pels .entry))) table last (now (out .entry)))
+        × (now (out .exit) ≡ wroteOut (written width rows (table .entries) last (now (pels .entry))) (now (out .entry))) ⌝ }
+{
+    let run = write_rows(pels, last, width, rows, table, out);
+    let coder = run.coder;
+    let shifts = coder.interval.count;
+    let end = coder.finish();
+    let bytes = end.bytes;
+    let n = store::put_last(out, run.at, bytes, end.count) - 1;
+    if has_room(n, out.len()) {
+        let after = run.table;
+        let row = last_row(pels, width, rows);
+        return Wrote { room: true, length: n, shifts: shifts, table: after, last: row };
+    }
+    store::clear(out);
+    Wrote { room: false, length: 0, shifts: 0, table: table, last: last }
 }

@@ -172,7 +172,7 @@ impl Coder {
     // The end: zeros shifted in, and bytes made, until they cover every bit of the lower end.
     pub fn finish(self) -> Ended
         requires { ⌜ Rest (lift self []) ⌝ }
-        ensures { λ r. ⌜ (take (r .count) (r .bytes) ≡ bytes (finish (lift self []))) × (r .count ≤ 5) ⌝ }
+        ensures { λ r. ⌜ (take (r .count) (r .bytes) ≡ bytes (finish (lift self []))) × (1 ≤ r .count) × (r .count ≤ 5) ⌝ }
     {
         let interval = self.interval;
         let mut low = interval.low;

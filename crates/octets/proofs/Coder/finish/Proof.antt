@@ -88,7 +88,7 @@ returns c =
     let i = c .before .before .before .args .self .interval in
     let e = l .inv i (c .before .before .before .pre) in
     let z : l .left ≡ 0 = omega (arith, c .loop-test .left) in
-    (rw add-one (ending-end i _ _ _ _ _ _ (rw z at e)), omega (arith, e .fuel))
+    (rw add-one (ending-end i _ _ _ _ _ _ (rw z at e)), omega arith, omega (arith, e .fuel))
 
 pub finish-spec : {M : Type 1} → statement M
 finish-spec =

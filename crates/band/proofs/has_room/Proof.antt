@@ -1,0 +1,17 @@
+use mathlib.Core.Path.{refl}
+use borrow.Author.Tests.{le-leb, lt-leb}
+use Rattle.band.proofs.has_room.Statement.{statement}
+use Rattle.band.proofs.has_room.Tie as tie
+use Rattle.band.proofs.has_room.Reads as reads
+use Rattle.band.proofs.has_room.Lts as lts
+
+-- src/lib.rt:148:1
+returns : tie.Need-returns
+returns c = rw (le-leb _ _ (c .if1 .taken))
+
+-- src/lib.rt:148:1
+returns-2 : tie.Need-returns-2
+returns-2 c = rw (lt-leb _ _ (c .if1 .left))
+
+pub has-room-spec : {M : Type 1} → statement M
+has-room-spec = tie.close (tie.spec returns returns-2)
