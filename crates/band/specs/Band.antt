@@ -52,6 +52,10 @@ qPage width = page qScheme width
 abbrev pub pageAt : ℕ → List ℕ → List ℕ → Page
 pageAt width table last = record { table = table; above = pelsTo last width; this = [] }
 
+-- a new page's last row is white
+unfoldable pub white : List ℕ
+white = replicate lastBytes 0
+
 -- ---- a band as written: its code, S, the table after it, the last row after it (in the room that a page has for it)
 pub record Written : Type 0 where
   pub code : List ℕ

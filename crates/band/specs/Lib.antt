@@ -2,3 +2,5 @@ pub mod Band
 pub mod Rows
 pub mod Bands
 pub mod LastRow
+pub mod Laws
+pub mod Worked
