@@ -85,8 +85,8 @@ hasRoom code out = leb (length code) (length out) && leb (length code) maxCode
 unfoldable pub wroteAnswer : Written → Table → List ℕ → List ℕ → Wrote
 wroteAnswer w table last out =
     cond (hasRoom (w .code) out)
-      (record { room = true; length = length (w .code); shifts = w .shifts; table = record { entries = w .table }; last = w .last })
-      (record { room = false; length = 0; shifts = 0; table = table; last = last })
+    (record { room = true; length = length (w .code); shifts = w .shifts; table = record { entries = w .table }; last = w .last })
+    (record { room = false; length = 0; shifts = 0; table = table; last = last })
 
 unfoldable pub wroteOut : Written → List ℕ → List ℕ
 wroteOut w out = cond (hasRoom (w .code) out) (inFront (w .code) out) (cleared out)

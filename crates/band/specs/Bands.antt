@@ -59,8 +59,15 @@ module _ (width : ℕ) where
     unfolding bandTo after stores
     band-start c e l =
         record {
-          settled = []; stage = ap (stageOf width (pageAt width t₀ last)) (sym e); stored = refl; place = refl; few = omega arith; lawful = l;
-          ready = subst Ready (sym e) ready-start; count = rw (ap (λ (w : Registers). w .interval .count) e) (omega arith) }
+          settled = [];
+          stage = ap (stageOf width (pageAt width t₀ last)) (sym e);
+          stored = refl;
+          place = refl;
+          few = omega arith;
+          lawful = l;
+          ready = subst Ready (sym e) ready-start;
+          count = rw (ap (λ (w : Registers). w .interval .count) e) (omega arith);
+        }
 
     -- one row more
     module _ (above t : List ℕ) (c : Coder) (out : List ℕ) (at y : ℕ) (row t′ : List ℕ) (c′ : Coder) (out′ : List ℕ) (at′ : ℕ) (b : BandAt above t c out at y)
@@ -89,12 +96,15 @@ module _ (width : ℕ) where
       band-again k =
           let n : length (b .settled ++ r .settled) ≡ length (b .settled) + length (r .settled) = length-append (b .settled) (r .settled) in
           record {
-            settled = b .settled ++ r .settled; stage = next-stage;
+            settled = b .settled ++ r .settled;
+            stage = next-stage;
             stored = r .stored ∙ ap₂ (λ (o : List ℕ) (a : ℕ). stores o a (r .settled)) (b .stored) (b .place ∙ sym (zero-add (length (b .settled)))) ∙ stores-append out₀ 0 (b .settled) (r .settled);
             place = omega (arith, r .place, b .place);
             few = omega (arith, r .few, b .few);
-            lawful = r .lawful; ready = r .ready;
-            count = omega (arith, r .count, b .count) }
+            lawful = r .lawful;
+            ready = r .ready;
+            count = omega (arith, r .count, b .count);
+          }
 
 -- ---- the end of a band
 both-left : (x y : Bool) → (x && y) ≡ true → x ≡ true
@@ -150,12 +160,14 @@ module _ (width rows : ℕ) (last band t₀ out₀ above t : List ℕ) (c : Code
         → (record { room = true; length = n₁ - 1; shifts = c .interval .count; table = record { entries = t }; last = row } ≡ wroteAnswer W table last out₀) × (out₁ ≡ wroteOut W out₀)
     unfolding wroteAnswer wroteOut
     with-room h table row r =
-        let k : hasRoom (W .code) out₀ ≡ true = room-is ∙ h in
-        ( rw k (λ i. record { room = true; length = end-length i; shifts = sym end-shifts i; table = record { entries = sym end-table i }; last = last-is r i })
-        , rw k (end-stored ∙ stores-fit out₀ all (subst (λ (x : ℕ). x ≤ length out₀) (end-length ∙ ap length end-code) (omega (arith, end-same, leb-true (n₁ - 1) (length out₁) (left-of h)))) ∙ ap (λ (x : List ℕ). inFront x out₀) (sym end-code)) )
+        let k : hasRoom (W .code) out₀ ≡ true = room-is ∙ h in (
+          rw k (λ i. record { room = true; length = end-length i; shifts = sym end-shifts i; table = record { entries = sym end-table i }; last = last-is r i }),
+          rw k (end-stored ∙ stores-fit out₀ all (subst (λ (x : ℕ). x ≤ length out₀) (end-length ∙ ap length end-code) (omega (arith, end-same, leb-true (n₁ - 1) (length out₁) (left-of h)))) ∙ ap (λ (x : List ℕ). inFront x out₀) (sym end-code)),
+        )
       where
         last-is : row ≡ lastRow width rows band → row ≡ W .last
         last-is r = r ∙ sym (written-last width rows t₀ last band)
+
         left-of : (leb (n₁ - 1) (length out₁) && leb (n₁ - 1) maxCode) ≡ true → leb (n₁ - 1) (length out₁) ≡ true
         left-of h = both-left (leb (n₁ - 1) (length out₁)) (leb (n₁ - 1) maxCode) h
 
@@ -218,7 +230,7 @@ pub band-first : (width : ℕ) (last band t₀ out₀ : List ℕ) (bytes′ : �
 band-first width last band t₀ out₀ bytes′ c t′ c′ out′ at′ is h k s l r =
     let e : take bytes′ band ≡ rowAt width band 0 = row-first width band bytes′ is in
     band-again width last band t₀ out₀ last t₀ c out₀ 0 0 (rowAt width band 0) t′ c′ out′ at′ (band-start width last band t₀ out₀ c s l) h refl
-      (subst (λ (x : List ℕ). RowDone width (pelsTo last width) x t₀ c out₀ 0 t′ c′ out′ at′) e r) k
+    (subst (λ (x : List ℕ). RowDone width (pelsTo last width) x t₀ c out₀ 0 t′ c′ out′ at′) e r) k
 
 pub start-count : (c : Coder) → lift c [] ≡ start → c .interval .count ≡ 0
 start-count c e = ap (λ (w : Registers). w .interval .count) e
@@ -237,5 +249,5 @@ pub keep-next : (width : ℕ) (band : List ℕ) (run₀ run run′ : Run) (out�
     → RowsKeep width band run₀ out₀ run′ out′ (y + 1)
 keep-next width band run₀ run run′ out₀ out out′ y h w k r d last t o b =
     subst₂ (λ (n m : ℕ). BandAt width last band t o (rowAt width band n) (run′ .table .entries) (run′ .coder) out′ (run′ .at) m) (omega arith) (sym (add-one y))
-      (band-again width last band t o (rowAt width band (y - 1)) (run .table .entries) (run .coder) out (run .at) y (rowAt width band y) (run′ .table .entries) (run′ .coder) out′ (run′ .at)
-        (r last t o b) h refl d w)
+    (band-again width last band t o (rowAt width band (y - 1)) (run .table .entries) (run .coder) out (run .at) y (rowAt width band y) (run′ .table .entries) (run′ .coder) out′ (run′ .at)
+    (r last t o b) h refl d w)

@@ -25,6 +25,7 @@ copy-more pels row from i e h l =
   where
     one-more : (i : ℕ) → i < 256 → 256 - i ≡ suc (255 - i)
     one-more i h = omega arith
+
     less : (i : ℕ) → 255 - i ≡ 256 - (i + 1)
     less i = omega arith
 

@@ -112,13 +112,24 @@ pub fn write_next(pels: &[u8], y: usize, width: usize, run: Run, out: &mut [u8])
 }
 
 // The rows of a band, the first under the page's last row.
-pub fn write_rows(pels: &[u8], last: [u8; 256], width: usize, rows: usize, table: Table, out: &mut [u8]) -> Run
+pub fn write_rows(
+    pels: &[u8],
+    last: [u8; 256],
+    width: usize,
+    rows: usize,
+    table: Table,
+    out: &mut [u8],
+) -> Run
     requires { ⌜ (1 ≤ width) × (width ≤ 2048) × (1 ≤ rows) × (rows ≤ 64) × (length (now pels) ≡ rows * rowBytes width) × LawfulTable (table .entries) ⌝ }
     ensures { λ r. ⌜ BandAt width last (now (pels .entry)) (table .entries) (now (out .entry)) (rowAt width (now (pels .entry)) (rows - 1)) (r .table .entries) (r .coder) (now (out .exit)) (r .at) rows ⌝ }
 {
     let bytes = template::row_bytes(width);
     let coder = Coder::start();
-    let begun = Run { coder: coder, table: table, at: 0 };
+    let begun = Run {
+        coder: coder,
+        table: table,
+        at: 0,
+    };
     let mut run = write_row(&pels[..bytes], &last, width, begun, out);
     let mut y: usize = 1;
     while y < rows {
@@ -152,7 +163,14 @@ pub fn has_room(n: usize, len: usize) -> bool
 }
 
 // A band into a lent buffer: its code in front and the rest kept, or all zero where there is no room.
-pub fn write_band(table: Table, last: [u8; 256], width: usize, rows: usize, pels: &[u8], out: &mut [u8]) -> Wrote
+pub fn write_band(
+    table: Table,
+    last: [u8; 256],
+    width: usize,
+    rows: usize,
+    pels: &[u8],
+    out: &mut [u8],
+) -> Wrote
     requires { ⌜ (1 ≤ width) × (width ≤ 2048) × (1 ≤ rows) × (rows ≤ 64) × (length (now pels) ≡ rows * rowBytes width) × LawfulTable (table .entries) ⌝ }
     ensures { λ r. ⌜ (r ≡ wroteAnswer (written width rows (table .entries) last (now (pels .entry))) table last (now (out .entry)))
         × (now (out .exit) ≡ wroteOut (written width rows (table .entries) last (now (pels .entry))) (now (out .entry))) ⌝ }
@@ -166,8 +184,20 @@ pub fn write_band(table: Table, last: [u8; 256], width: usize, rows: usize, pels
     if has_room(n, out.len()) {
         let after = run.table;
         let row = last_row(pels, width, rows);
-        return Wrote { room: true, length: n, shifts: shifts, table: after, last: row };
+        return Wrote {
+            room: true,
+            length: n,
+            shifts: shifts,
+            table: after,
+            last: row,
+        };
     }
     store::clear(out);
-    Wrote { room: false, length: 0, shifts: 0, table: table, last: last }
+    Wrote {
+        room: false,
+        length: 0,
+        shifts: 0,
+        table: table,
+        last: last,
+    }
 }

@@ -1,10 +1,10 @@
 -- Document 01, "Pels, rows and the seven neighbours". Assumes nothing.
 use Prim.Native.Nat.{ℕ, zero, suc, _+_, _-_, _*_, _/_, _%_, _^_, _<_}
 use mathlib.Core.Path.{_≡_}
-use mathlib.Core.Bool.{Bool, true, false, cond}
+use mathlib.Core.Bool.{Bool, true, false, cond, _&&_}
 use mathlib.Core.List.{List, [], _∷_, _++_}
 use lib.ListN.{getD, length, take, drop}
-use lib.Dec.{ltb}
+use lib.Dec.{ltb, eqb}
 
 -- Each row is padded to a whole byte.
 abbrev pub rowBytes : ℕ → ℕ
@@ -27,6 +27,14 @@ rowAt width band y = take (rowBytes width) (drop (y * rowBytes width) band)
 unfoldable pub bandTo : ℕ → List ℕ → ℕ → List ℕ
 bandTo width band zero = []
 bandTo width band (suc n) = bandTo width band n ++ pelsTo (rowAt width band n) width
+
+-- The padding bits of a row are zero bits; and those of a band's first n rows.
+unfoldable pub rowPadded : ℕ → List ℕ → Bool
+rowPadded width row = eqb (getD row (rowBytes width - 1) 0 % 2 ^ (8 * rowBytes width - width)) 0
+
+unfoldable pub bandPadded : ℕ → List ℕ → ℕ → Bool
+bandPadded width band zero = true
+bandPadded width band (suc n) = bandPadded width band n && rowPadded width (rowAt width band n)
 
 -- Outside the left or right edge a neighbour is 0: the pel d to the left of x, and the pel d to the right, of a row's pels.
 unfoldable pub leftOf : List ℕ → ℕ → ℕ → ℕ

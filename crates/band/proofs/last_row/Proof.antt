@@ -56,7 +56,7 @@ loop-less c = omega (arith, c .before .loop-test .taken)
 
 -- src/lib.rt:138:5
 loop-again : tie.Need-loop-again Inv-loop μ-loop
-loop-again c = let a = c .before .before .before .before .before .args in let q = c .before .before .before .before .before .pre in let b = c .before .before .before .row-bytes in let z = rows-fit (a .width) (a .pels .now) (b .result) (b .ensures) (a .rows) (a .rows - 1) (omega (arith, q .2)) (q .3) (q .1) (q .4) in 
+loop-again c = let a = c .before .before .before .before .before .args in let q = c .before .before .before .before .before .pre in let b = c .before .before .before .row-bytes in let z = rows-fit (a .width) (a .pels .now) (b .result) (b .ensures) (a .rows) (a .rows - 1) (omega (arith, q .2)) (q .3) (q .1) (q .4) in
     (omega (arith, c .before .loop-test .taken), copy-more (a .pels .now) _ _ _ (c .before .before .loop .inv .1) (omega (arith, c .before .loop-test .taken, b .ensures, q .1)) (omega (arith, z .0, z .1, c .before .loop-test .taken)))
 
 -- src/lib.rt:130:1

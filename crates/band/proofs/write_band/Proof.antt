@@ -54,9 +54,9 @@ returns c =
     let p = c .before .before .before .before .before .before .put-last in
     let n : length (f .result .bytes) ≡ 5 = search needs in
     let k : p .result ≡ w .result .at + length (take (f .result .count) (f .result .bytes))
-          = p .ensures .0 ∙ ap (λ m. w .result .at + m) (sym (length-take-le (f .result .count) (f .result .bytes) (omega (arith, f .ensures .2)))) in
+    = p .ensures .0 ∙ ap (λ m. w .result .at + m) (sym (length-take-le (f .result .count) (f .result .bytes) (omega (arith, f .ensures .2)))) in
     with-room (a .width) (a .rows) (a .last) (a .pels .now) (a .table .entries) (a .out .now) _ _ _ _ _ (w .ensures) _ (f .ensures .0) _ (p .result) (p .ensures .1) k
-      (sym (c .before .before .before .has-room .ensures) ∙ c .before .before .if1 .taken) (a .table) _ (c .last-row .ensures)
+    (sym (c .before .before .before .has-room .ensures) ∙ c .before .before .if1 .taken) (a .table) _ (c .last-row .ensures)
 
 -- src/lib.rt:171:5
 clear-requires : tie.Need-clear-requires
@@ -75,9 +75,9 @@ returns-2 c =
     let p = c .before .before .before .before .before .before .before .before .put-last in
     let n : length (f .result .bytes) ≡ 5 = search needs in
     let k : p .result ≡ w .result .at + length (take (f .result .count) (f .result .bytes))
-          = p .ensures .0 ∙ ap (λ m. w .result .at + m) (sym (length-take-le (f .result .count) (f .result .bytes) (omega (arith, f .ensures .2)))) in
+    = p .ensures .0 ∙ ap (λ m. w .result .at + m) (sym (length-take-le (f .result .count) (f .result .bytes) (omega (arith, f .ensures .2)))) in
     let z = without-room (a .width) (a .rows) (a .last) (a .pels .now) (a .table .entries) (a .out .now) _ _ _ _ _ (w .ensures) _ (f .ensures .0) _ (p .result) (p .ensures .1) k
-              (sym (c .before .before .before .before .before .has-room .ensures) ∙ c .before .before .before .before .if1 .left) (a .table) in
+    (sym (c .before .before .before .before .before .has-room .ensures) ∙ c .before .before .before .before .if1 .left) (a .table) in
     (z .0, c .before .before .clear .ensures ∙ z .1)
 
 pub write-band-spec : {M : Type 1} → statement M

@@ -55,7 +55,7 @@ part-above-end c = let a = c .before .before .before .before .args in let z = si
 -- src/lib.rt:105:5
 write-row-requires : tie.Need-write-row-requires
 write-row-requires c κs =
-    let a = c .before .before .before .before .before .before .args in let z = sizes (a .width) (a .y) (c .before .before .before .row-bytes .result) (length (a .pels .now)) (c .before .before .before .row-bytes .ensures) (omega arith) (omega arith) (omega arith) (omega arith) in 
+    let a = c .before .before .before .before .before .before .args in let z = sizes (a .width) (a .y) (c .before .before .before .row-bytes .result) (length (a .pels .now)) (c .before .before .before .row-bytes .ensures) (omega arith) (omega arith) (omega arith) (omega arith) in
     let q = c .before .before .before .before .before .before .pre in
     let b = c .before .before .before .row-bytes in
     (omega arith, part-wide (a .width) (b .result) (a .y * b .result + b .result - a .y * b .result) (a .y * b .result) (a .pels .now) (b .ensures) (omega arith) (z .inside), part-wide (a .width) (b .result) (a .y * b .result - (a .y * b .result - b .result)) (a .y * b .result - b .result) (a .pels .now) (b .ensures) (omega arith) (omega arith), omega arith, q .5, q .6, q .7, q .8)

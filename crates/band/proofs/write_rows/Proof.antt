@@ -28,11 +28,11 @@ abbrev μ-loop : tie.MeasureT-loop
 -- the first row
 begun : (c : tie.After-write-row Inv-loop μ-loop)
     → BandAt (c .before .before .before .before .before .before .before .before .args .width) (c .before .before .before .before .before .before .before .before .args .t2) (c .before .before .before .before .before .before .before .before .args .pels .now) (c .before .before .before .before .before .before .before .before .args .table .entries) (c .before .before .before .before .before .before .before .before .args .out .now) (rowAt (c .before .before .before .before .before .before .before .before .args .width) (c .before .before .before .before .before .before .before .before .args .pels .now) 0) (c .write-row .result .table .entries)
-        (c .write-row .result .coder) (c .write-row .last .1 .1 .1 .1 .0) (c .write-row .result .at) 1
+    (c .write-row .result .coder) (c .write-row .last .1 .1 .1 .1 .0) (c .write-row .result .at) 1
 begun c =
     let a = c .before .before .before .before .before .before .before .before .args in
     band-first (a .width) (a .t2) (a .pels .now) (a .table .entries) (a .out .now) (c .before .before .before .before .before .row-bytes .result) (c .before .before .before .before .start .result) _ _ _ _
-      (c .before .before .before .before .before .row-bytes .ensures) (c .before .before .before .before .before .before .before .before .pre .0) (c .before .before .before .before .before .before .before .before .pre .1) (c .before .before .before .before .start .ensures) (c .before .before .before .before .before .before .before .before .pre .5) (c .write-row .ensures)
+    (c .before .before .before .before .before .row-bytes .ensures) (c .before .before .before .before .before .before .before .before .pre .0) (c .before .before .before .before .before .before .before .before .pre .1) (c .before .before .before .before .start .ensures) (c .before .before .before .before .before .before .before .before .pre .5) (c .write-row .ensures)
 
 -- src/lib.rt:113:9
 row-bytes-requires : tie.Need-row-bytes-requires Inv-loop μ-loop
@@ -53,11 +53,17 @@ slice-aggregate-write-row-2 c = search needs
 -- src/lib.rt:116:9
 write-row-requires : tie.Need-write-row-requires Inv-loop μ-loop
 write-row-requires c κs =
-    let a = c .before .before .before .before .before .before .before .args in let z = rows-fit (a .width) (a .pels .now) (rowBytes (a .width)) refl (a .rows) 0 (omega arith) (c .before .before .before .before .before .before .before .pre .3) (c .before .before .before .before .before .before .before .pre .1) (c .before .before .before .before .before .before .before .pre .4) in 
-    let n : length (a .t2) ≡ 256 = search needs in
-    ( c .before .before .before .before .before .before .before .pre .1
-    , rw (length-take-le (c .before .before .before .before .row-bytes .result) (a .pels .now) (omega (arith, c .before .before .before .before .row-bytes .ensures, z .0))) (omega (arith, c .before .before .before .before .row-bytes .ensures))
-    , omega (arith, c .before .before .before .before .before .before .before .pre .1), c .before .before .before .before .before .before .before .pre .0, c .before .before .before .before .before .before .before .pre .5, subst Ready (sym (c .before .before .before .start .ensures)) ready-start, omega (arith, start-count (c .before .before .before .start .result) (c .before .before .before .start .ensures)), omega arith )
+    let a = c .before .before .before .before .before .before .before .args in let z = rows-fit (a .width) (a .pels .now) (rowBytes (a .width)) refl (a .rows) 0 (omega arith) (c .before .before .before .before .before .before .before .pre .3) (c .before .before .before .before .before .before .before .pre .1) (c .before .before .before .before .before .before .before .pre .4) in
+    let n : length (a .t2) ≡ 256 = search needs in (
+      c .before .before .before .before .before .before .before .pre .1,
+      rw (length-take-le (c .before .before .before .before .row-bytes .result) (a .pels .now) (omega (arith, c .before .before .before .before .row-bytes .ensures, z .0))) (omega (arith, c .before .before .before .before .row-bytes .ensures)),
+      omega (arith, c .before .before .before .before .before .before .before .pre .1),
+      c .before .before .before .before .before .before .before .pre .0,
+      c .before .before .before .before .before .before .before .pre .5,
+      subst Ready (sym (c .before .before .before .start .ensures)) ready-start,
+      omega (arith, start-count (c .before .before .before .start .result) (c .before .before .before .start .ensures)),
+      omega arith,
+    )
 
 -- src/lib.rt:118:5
 loop-holds : tie.Need-loop-holds Inv-loop μ-loop
@@ -66,7 +72,7 @@ loop-holds c = (omega arith, c .before .before .before .before .before .before .
 -- src/lib.rt:119:9
 write-next-requires : tie.Need-write-next-requires Inv-loop μ-loop
 write-next-requires c κs =
-    let a = c .before .before .before .before .before .before .before .before .before .before .before .before .before .args in let l = c .before .before .loop in let q = c .before .before .before .before .before .before .before .before .before .before .before .before .before .pre in let b = l .inv .3 (a .t2) (a .table .entries) (a .out .now) (begun (c .before .before .before .before .before)) in 
+    let a = c .before .before .before .before .before .before .before .before .before .before .before .before .before .args in let l = c .before .before .loop in let q = c .before .before .before .before .before .before .before .before .before .before .before .before .before .pre in let b = l .inv .3 (a .t2) (a .table .entries) (a .out .now) (begun (c .before .before .before .before .before)) in
     let z = rows-fit (a .width) (a .pels .now) (rowBytes (a .width)) refl (a .rows) (l .y) (c .before .loop-test .taken) (q .3) (q .1) (q .4) in
     (q .0, q .1, l .inv .0, omega (arith, c .before .loop-test .taken, q .3), z .0, b .lawful, b .ready, omega (arith, b .count, q .3, l .inv .1), omega (arith, b .place, b .few, q .3, l .inv .1))
 
@@ -83,9 +89,12 @@ loop-again : tie.Need-loop-again Inv-loop μ-loop
 loop-again c =
     let a = c .before .before .before .before .before .before .before .before .before .before .before .before .before .before .before .before .args in
     let l = c .before .before .before .before .before .loop in
-    let v = c .before .before .write-next in
-    ( omega (arith, l .inv .0), omega (arith, c .before .before .before .before .loop-test .taken), v .kept .1 .1 .1 .1 .0 ∙ l .inv .2
-    , keep-next (a .width) (a .pels .now) _ (l .run) (v .result) _ (l .out) _ (l .y) (c .before .before .before .before .before .before .before .before .before .before .before .before .before .before .before .before .pre .0) (c .before .before .before .before .before .before .before .before .before .before .before .before .before .before .before .before .pre .1) (l .inv .0) (l .inv .3) (v .ensures) )
+    let v = c .before .before .write-next in (
+      omega (arith, l .inv .0),
+      omega (arith, c .before .before .before .before .loop-test .taken),
+      v .kept .1 .1 .1 .1 .0 ∙ l .inv .2,
+      keep-next (a .width) (a .pels .now) _ (l .run) (v .result) _ (l .out) _ (l .y) (c .before .before .before .before .before .before .before .before .before .before .before .before .before .before .before .before .pre .0) (c .before .before .before .before .before .before .before .before .before .before .before .before .before .before .before .before .pre .1) (l .inv .0) (l .inv .3) (v .ensures),
+    )
 
 -- src/lib.rt:109:1
 same-length : tie.Need-same-length Inv-loop μ-loop
@@ -94,7 +103,7 @@ same-length c = let a = c .before .before .before .before .before .before .befor
 -- src/lib.rt:109:1
 returns : tie.Need-returns Inv-loop μ-loop
 returns c =
-    let a = c .before .before .before .before .before .before .before .before .before .before .before .before .args in let l = c .before .loop in let q = c .before .before .before .before .before .before .before .before .before .before .before .before .pre in let b = l .inv .3 (a .t2) (a .table .entries) (a .out .now) (begun (c .before .before .before .before)) in 
+    let a = c .before .before .before .before .before .before .before .before .before .before .before .before .args in let l = c .before .loop in let q = c .before .before .before .before .before .before .before .before .before .before .before .before .pre in let b = l .inv .3 (a .t2) (a .table .entries) (a .out .now) (begun (c .before .before .before .before)) in
     let e : l .y ≡ a .rows = omega (arith, l .inv .1, c .loop-test .left) in
     rw e at b
 

@@ -1,0 +1,80 @@
+-- Document 01: when a desk is lawful, sentence by sentence. Assumes nothing.
+use Prim.Native.Nat.{ℕ, zero, suc, _+_, _-_, _*_, _/_, _%_, _^_}
+use mathlib.Core.Bool.{Bool, true, false, cond, not, _&&_, _||_}
+use mathlib.Core.List.{List, [], _∷_}
+use lib.Dec.{eqb, leb}
+use lib.ListN.{getD, length, drop}
+use Rattle.template.specs.Pels.{rowBytes, rowPadded}
+use Rattle.band.specs.Band.{maxWidth}
+use Rattle.estimate.specs.Estimate.{indexOf}
+use Rattle.desk.specs.declared.Key.{Key}
+use Rattle.desk.specs.declared.Page.{Page}
+use Rattle.desk.specs.declared.Place.{Place}
+use Rattle.desk.specs.declared.Desk.{Desk}
+use Rattle.desk.specs.Places.{isUsed, isPageOf, isPlaceOf}
+
+abbrev pub within : ℕ → ℕ → ℕ → Bool
+within low n high = leb low n && leb n high
+
+-- every element passes; some element passes
+unfoldable pub all : {A : Type 0} → (A → Bool) → List A → Bool
+all test [] = true
+all test (x ∷ xs) = test x && all test xs
+
+unfoldable pub any : {A : Type 0} → (A → Bool) → List A → Bool
+any test [] = false
+any test (x ∷ xs) = test x || any test xs
+
+-- no two of them pass the test together
+unfoldable pub apart : {A : Type 0} → (A → A → Bool) → List A → Bool
+apart same [] = true
+apart same (x ∷ xs) = not (any (same x) xs) && apart same xs
+
+-- each number 1 to 65,535
+abbrev pub lawfulKey : ℕ → ℕ → Bool
+lawfulKey school class = within 1 school 65535 && within 1 class 65535
+
+-- every index is at most 29
+abbrev pub lawfulTable : List ℕ → Bool
+lawfulTable t = all (λ e. leb (indexOf e) 29) t
+
+abbrev pub isZero : List ℕ → Bool
+isZero xs = all (λ x. eqb x 0) xs
+
+-- a last row of that width has no stray bit: the padding bits of its last byte are 0, and so are the bytes after it
+unfoldable pub noStray : ℕ → List ℕ → Bool
+noStray width last = rowPadded width last && isZero (drop (rowBytes width) last)
+
+-- an open page has a lawful key and width, indexes of at most 29, no stray bit; an unused one is zero
+unfoldable pub lawfulPage : Page → Bool
+lawfulPage p =
+    cond (isUsed (p .state))
+    (leb (p .state) 2 && (lawfulKey (p .school) (p .class) && (within 1 (p .width) maxWidth && (lawfulTable (p .table .entries) && noStray (p .width) (p .last)))))
+    (eqb (p .school) 0 && (eqb (p .class) 0 && (eqb (p .width) 0 && (isZero (p .table .entries) && isZero (p .last)))))
+
+-- a used place has a lawful key; a learned table's indexes are at most 29; a reserved place's table, and a free place, are zero
+unfoldable pub lawfulPlace : Place → Bool
+lawfulPlace q =
+    cond (isUsed (q .state))
+    (leb (q .state) 2 && (lawfulKey (q .school) (q .class) && cond (eqb (q .state) 2) (lawfulTable (q .table .entries)) (isZero (q .table .entries))))
+    (eqb (q .school) 0 && (eqb (q .class) 0 && isZero (q .table .entries)))
+
+-- both are used, under one key
+abbrev pub samePages : Page → Page → Bool
+samePages p q = isUsed (p .state) && isPageOf (record { school = p .school; class = p .class }) q
+
+abbrev pub samePlaces : Place → Place → Bool
+samePlaces p q = isUsed (p .state) && isPlaceOf (record { school = p .school; class = p .class }) q
+
+-- an open page has its place; a reserved place has its page
+abbrev pub pageHasPlace : List Place → Page → Bool
+pageHasPlace places p = not (isUsed (p .state)) || any (isPlaceOf (record { school = p .school; class = p .class })) places
+
+abbrev pub placeHasPage : List Page → Place → Bool
+placeHasPage pages q = not (eqb (q .state) 1) || any (isPageOf (record { school = q .school; class = q .class })) pages
+
+unfoldable pub lawful : Desk → Bool
+lawful d =
+    (all lawfulPage (d .pages) && all lawfulPlace (d .places))
+    && ((apart samePages (d .pages) && apart samePlaces (d .places))
+    && (all (pageHasPlace (d .places)) (d .pages) && all (placeHasPage (d .pages)) (d .places)))

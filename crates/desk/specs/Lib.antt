@@ -1,0 +1,4 @@
+pub mod Places
+pub mod Lawful
+pub mod Refusals
+pub mod Calls
