@@ -1,8 +1,10 @@
 -- Document 01: a written band, from the page's working table and last row at that moment. Assumes nothing.
-use Prim.Native.Nat.{ℕ, _+_, _-_, _*_}
+use Prim.Native.Nat.{ℕ, _+_, _-_, _*_, _≤_}
+use mathlib.Core.Path.{_≡_}
+use mathlib.Core.Option.{Option, some, none}
 use mathlib.Core.Bool.{Bool, true, false, cond, _&&_}
 use mathlib.Core.List.{List, [], _++_}
-use lib.ListN.{length, replicate}
+use lib.ListN.{getD, length, replicate}
 use lib.Dec.{ltb, leb}
 use Rattle.coder.specs.Writing.{Writer, Model, Stage, after, opening, bandCode, bandCount, bandModel}
 use Rattle.coder.specs.Page.{Scheme, Page, page}
@@ -12,7 +14,7 @@ use Rattle.octets.specs.Octets.{Registers, start, part, pel, code}
 use Rattle.store.specs.Store.{inFront, cleared}
 use Rattle.estimate.specs.declared.Table.{Table}
 use Rattle.band.specs.declared.Wrote.{Wrote}
-use Rattle.template.specs.Pels.{rowBytes, pelsTo, rowAt, bandTo, context}
+use Rattle.template.specs.Pels.{rowBytes, pelsTo, rowAt, bandTo, bandPadded, context}
 
 -- ---- the limits
 -- Width 1 to 2,048. A band has 1 to 64 rows. A code has at most 32,768 bytes.
@@ -90,3 +92,15 @@ wroteAnswer w table last out =
 
 unfoldable pub wroteOut : Written → List ℕ → List ℕ
 wroteOut w out = cond (hasRoom (w .code) out) (inFront (w .code) out) (cleared out)
+
+-- ---- a band read. A band of that width and height: bytes, exactly rows × row bytes, the padding bits zero
+pub record IsBand (width rows : ℕ) (band : List ℕ) : Type 0 where
+  pub size : length band ≡ rows * rowBytes width
+  pub padded : bandPadded width band rows ≡ true
+  pub octets : (i : ℕ) → getD band i 0 ≤ 255
+
+-- What may be found in a code, from a table and a last row: a band that would have been written as exactly those bytes, or nothing,
+-- where no band of that width and height would have been.
+abbrev pub Right : ℕ → ℕ → List ℕ → List ℕ → List ℕ → Option (List ℕ) → Type 0
+Right width rows table last code (some band) = IsBand width rows band × (written width rows table last band .code ≡ code)
+Right width rows table last code none = (band : List ℕ) → IsBand width rows band → written width rows table last band .code ≡ code → ⊥

@@ -31,51 +31,52 @@ use Rattle.template.specs.Window.{Slid, slid-next, slid-small, slid-context, le
 use Rattle.band.specs.declared.Pel.{Pel}
 use Rattle.band.specs.Band.{qScheme, qWriter, qPage}
 
--- what the entry e decides of the pel p
-abbrev pub decided : ℕ → ℕ → Decision
-decided e p = decision (rowOf e) (eqb p (e % 2))
+-- what the entry e decides of a pel that is expected, or not
+abbrev pub decided : ℕ → Bool → Decision
+decided e b = decision (rowOf e) b
 
--- ---- one pel: the registers, the entry, the bytes settled
+-- ---- one pel: the registers, the entry, the shifts, the bytes settled
 abbrev pub bytesOf : Pel → List ℕ
 bytesOf v = take (v .settled) (v .first ∷ v .second ∷ [])
 
-abbrev pub shiftedBy : Coder → ℕ → ℕ → Bool
-shiftedBy c e p = ltb (part (decided e p) (lift c []) .interval .width) 0x1000
+abbrev pub shiftedBy : Coder → ℕ → Bool → Bool
+shiftedBy c e b = ltb (part (decided e b) (lift c []) .interval .width) 0x1000
 
-pub record Pelled (c : Coder) (e p : ℕ) (v : Pel) : Type 0 where
-  pub registers : pel (decided e p) (lift c []) ≡ lift (v .coder) (bytesOf v)
-  pub entry : v .entry ≡ cond (shiftedBy c e p) (next (eqb p (e % 2)) e) e
+pub record Pelled (c : Coder) (e : ℕ) (b : Bool) (v : Pel) : Type 0 where
+  pub registers : pel (decided e b) (lift c []) ≡ lift (v .coder) (bytesOf v)
+  pub entry : v .entry ≡ cond (shiftedBy c e b) (next b e) e
+  pub shifts : v .shifts ≡ turns 12 (partOf (decided e b) (c .interval) .width)
   pub few : v .settled ≤ 2
 
 -- from what the octets say of a pel
-module _ (c : Coder) (e p : ℕ) (u : Put) (registers : pel (decided e p) (lift c []) ≡ lift (u .coder) (settledOf u)) (few : u .settled ≤ 2)
-    (shifts : u .shifts ≡ turns 12 (partOf (decided e p) (c .interval) .width)) where
-  moved-by : shiftedBy c e p ≡ ltb 0 (u .shifts)
-  moved-by = sym (turns-some 11 (partOf (decided e p) (c .interval) .width)) ∙ ap (ltb 0) (sym shifts)
+module _ (c : Coder) (e : ℕ) (b : Bool) (u : Put) (registers : pel (decided e b) (lift c []) ≡ lift (u .coder) (settledOf u)) (few : u .settled ≤ 2)
+    (shifts : u .shifts ≡ turns 12 (partOf (decided e b) (c .interval) .width)) where
+  moved-by : shiftedBy c e b ≡ ltb 0 (u .shifts)
+  moved-by = sym (turns-some 11 (partOf (decided e b) (c .interval) .width)) ∙ ap (ltb 0) (sym shifts)
 
-  pub pelled-still : u .shifts ≡ 0 → Pelled c e p (record { coder = u .coder; entry = e; settled = u .settled; first = u .first; second = u .second })
-  pelled-still z = record { registers = registers; entry = rw (moved-by, z); few = few }
+  pub pelled-still : u .shifts ≡ 0 → Pelled c e b (record { coder = u .coder; entry = e; shifts = u .shifts; settled = u .settled; first = u .first; second = u .second })
+  pelled-still z = record { registers = registers; entry = rw (moved-by, z); shifts = shifts; few = few }
 
-  pub pelled-moved : (u .shifts ≡ 0 → ⊥) → (n : ℕ) → n ≡ next (eqb p (e % 2)) e → Pelled c e p (record { coder = u .coder; entry = n; settled = u .settled; first = u .first; second = u .second })
-  pelled-moved z n k = record { registers = registers; entry = rw (moved-by, lt-ltb 0 (u .shifts) (omega arith)) k; few = few }
+  pub pelled-moved : (u .shifts ≡ 0 → ⊥) → (n : ℕ) → n ≡ next b e → Pelled c e b (record { coder = u .coder; entry = n; shifts = u .shifts; settled = u .settled; first = u .first; second = u .second })
+  pelled-moved z n k = record { registers = registers; entry = rw (moved-by, lt-ltb 0 (u .shifts) (omega arith)) k; shifts = shifts; few = few }
 
-pub pelled-ready : (c : Coder) (e p : ℕ) (v : Pel) → Ready (lift c []) → Pelled c e p v → Ready (lift (v .coder) [])
-pelled-ready c e p v r k =
-    ready-bare (v .coder) (bytesOf v) [] (subst Ready (k .registers) (ready-pel (decided e p) (lift c []) r (record { some = row-sized e .some; small = row-sized e .small })))
+pub pelled-ready : (c : Coder) (e : ℕ) (b : Bool) (v : Pel) → Ready (lift c []) → Pelled c e b v → Ready (lift (v .coder) [])
+pelled-ready c e b v r k =
+    ready-bare (v .coder) (bytesOf v) [] (subst Ready (k .registers) (ready-pel (decided e b) (lift c []) r (record { some = row-sized e .some; small = row-sized e .small })))
 
-pub pelled-count : (c : Coder) (e p : ℕ) (v : Pel) → Pelled c e p v → v .coder .interval .count ≤ c .interval .count + 12
-pelled-count c e p v k = subst (λ (w : Registers). w .interval .count ≤ c .interval .count + 12) (k .registers) (pel-count (decided e p) (lift c []))
+pub pelled-count : (c : Coder) (e : ℕ) (b : Bool) (v : Pel) → Pelled c e b v → v .coder .interval .count ≤ c .interval .count + 12
+pelled-count c e b v k = subst (λ (w : Registers). w .interval .count ≤ c .interval .count + 12) (k .registers) (pel-count (decided e b) (lift c []))
 
-pub pelled-lawful : (c : Coder) (e p : ℕ) (v : Pel) → LawfulEntry e → Pelled c e p v → LawfulEntry (v .entry)
-pelled-lawful c e p v l k =
-    subst LawfulEntry (sym (k .entry)) (Rattle.ground.specs.Tests.by-cond LawfulEntry (shiftedBy c e p) (next (eqb p (e % 2)) e) e (λ t. next-lawful (eqb p (e % 2)) e l) (λ t. l))
+pub pelled-lawful : (c : Coder) (e : ℕ) (b : Bool) (v : Pel) → LawfulEntry e → Pelled c e b v → LawfulEntry (v .entry)
+pelled-lawful c e b v l k =
+    subst LawfulEntry (sym (k .entry)) (Rattle.ground.specs.Tests.by-cond LawfulEntry (shiftedBy c e b) (next b e) e (λ t. next-lawful b e l) (λ t. l))
 
 -- the bytes before stay before
 pub lift-behind : (c : Coder) (xs : List ℕ) → lift c xs ≡ behind xs (lift c [])
 lift-behind c xs = λ i. record { interval = c .interval; until = c .until; held = c .held; settled = sym (append-nil xs) i }
 
-pelled-after : (c : Coder) (e p : ℕ) (v : Pel) (xs : List ℕ) → Pelled c e p v → pel (decided e p) (lift c xs) ≡ lift (v .coder) (xs ++ bytesOf v)
-pelled-after c e p v xs k = ap (pel (decided e p)) (lift-behind c xs) ∙ behind-pel (decided e p) xs (lift c []) ∙ ap (behind xs) (k .registers)
+pelled-after : (c : Coder) (e : ℕ) (b : Bool) (v : Pel) (xs : List ℕ) → Pelled c e b v → pel (decided e b) (lift c xs) ≡ lift (v .coder) (xs ++ bytesOf v)
+pelled-after c e b v xs k = ap (pel (decided e b)) (lift-behind c xs) ∙ behind-pel (decided e b) xs (lift c []) ∙ ap (behind xs) (k .registers)
 
 -- ---- a row
 module _ (width : ℕ) where
@@ -105,20 +106,22 @@ module _ (width : ℕ) where
     abbrev e : ℕ
     e = getD table cx 0
 
-    taught-set : v .entry ≡ cond (shiftedBy c e p) (next (eqb p (e % 2)) e) e
-        → cond (shiftedBy c e p) (set table cx (next (eqb p (e % 2)) e)) table ≡ set table cx (v .entry)
-    taught-set k = go (shiftedBy c e p) (v .entry) k
+    abbrev b : Bool
+    b = eqb p (e % 2)
+
+    taught-set : v .entry ≡ cond (shiftedBy c e b) (next b e) e → cond (shiftedBy c e b) (set table cx (next b e)) table ≡ set table cx (v .entry)
+    taught-set k = go (shiftedBy c e b) (v .entry) k
       where
-        go : (b : Bool) (n : ℕ) → n ≡ cond b (next (eqb p (e % 2)) e) e → cond b (set table cx (next (eqb p (e % 2)) e)) table ≡ set table cx n
+        go : (t : Bool) (n : ℕ) → n ≡ cond t (next b e) e → cond t (set table cx (next b e)) table ≡ set table cx n
         go true n k = ap (set table cx) (sym k)
         go false n k = sym (set-getD table cx 0) ∙ ap (set table cx) (sym k)
 
-    step-within : length this < width → Pelled c e p v
+    pub step-within : length this < width → Pelled c e b v
         → step (qPage width) qWriter (stageOf (pageOf table above this) (lift c xs)) p ≡ stageOf (pageOf (set table cx (v .entry)) above (this ++ (p ∷ []))) (lift (v .coder) (xs ++ bytesOf v))
     unfolding size sense entryAt contextOf move taught
     step-within h k =
         ap (λ (m : Page). step (qPage width) qWriter (stageOf m (lift c xs)) p) (page-within table above this h)
-        ∙ ap₂ (λ (t : List ℕ) (w : Registers). stageOf (pageOf t above (this ++ (p ∷ []))) w) (taught-set (k .entry)) (pelled-after c e p v xs k)
+        ∙ ap₂ (λ (t : List ℕ) (w : Registers). stageOf (pageOf t above (this ++ (p ∷ []))) w) (taught-set (k .entry)) (pelled-after c e b v xs k)
 
   -- ---- the loop
   module _ (above row t₀ : List ℕ) (c₀ : Coder) (out₀ : List ℕ) (at₀ : ℕ) where
@@ -142,7 +145,7 @@ module _ (width : ℕ) where
     row-start w s l r =
         record { settled = []; stage = refl; stored = refl; place = omega arith; few = omega arith; slid = s; lawful = l; ready = r; count = omega arith; passed = omega arith }
 
-    few-bytes : (v : Pel) → v .settled ≤ 2 → length (bytesOf v) ≡ v .settled
+    pub few-bytes : (v : Pel) → v .settled ≤ 2 → length (bytesOf v) ≡ v .settled
     few-bytes v h = length-take (v .settled) (v .first ∷ v .second ∷ []) ∙ omega arith
 
     -- the window one place on
@@ -159,18 +162,18 @@ module _ (width : ℕ) where
       abbrev this : List ℕ
       this = pelsTo row x
 
-      again-stage : (cx p : ℕ) → cx ≡ context above this x → Pelled c (getD t cx 0) p v
+      again-stage : (cx p : ℕ) → cx ≡ context above this x → Pelled c (getD t cx 0) (eqb p (getD t cx 0 % 2)) v
           → through begun (this ++ (p ∷ [])) ≡ stageOf (pageOf (set t cx (v .entry)) above (this ++ (p ∷ []))) (lift (v .coder) (r .settled ++ bytesOf v))
       unfolding after
       again-stage cx p ec k =
           let l : length this ≡ x = length-pels row x in
           let ec′ : cx ≡ context above this (length this) = ec ∙ ap (context above this) (sym l) in
           after-append (qPage width) qWriter this (p ∷ []) begun ∙ ap (λ (s : Stage (qPage width) qWriter). step (qPage width) qWriter s p) (r .stage)
-          ∙ step-within t above this c (r .settled) p v (omega arith) (subst (λ (z : ℕ). Pelled c (getD t z 0) p v) ec′ k)
+          ∙ step-within t above this c (r .settled) p v (omega arith) (subst (λ (z : ℕ). Pelled c (getD t z 0) (eqb p (getD t z 0 % 2)) v) ec′ k)
           ∙ ap (λ (z : ℕ). stageOf (pageOf (set t z (v .entry)) above (this ++ (p ∷ []))) (lift (v .coder) (r .settled ++ bytesOf v))) (sym ec′)
 
       pub row-again : (cx p : ℕ) (w′ : Window) (out′ : List ℕ) (at′ : ℕ)
-          → ((y : ℕ) → getD above y 0 ≤ 1) → cx ≡ context above this x → p ≡ pelAt row x → Pelled c (getD t cx 0) p v
+          → ((y : ℕ) → getD above y 0 ≤ 1) → cx ≡ context above this x → p ≡ pelAt row x → Pelled c (getD t cx 0) (eqb p (getD t cx 0 % 2)) v
           → w′ .above ≡ (2 * w .above + getD above (x + 3) 0) % 32 → w′ .this ≡ (2 * w .this + p) % 4
           → out′ ≡ stores out at (bytesOf v) → at′ ≡ at + v .settled
           → RowAt (set t cx (v .entry)) (v .coder) w′ out′ at′ (suc x)
@@ -185,9 +188,9 @@ module _ (width : ℕ) where
             place = omega (arith, r .place);
             few = omega (arith, r .few, k .few);
             slid = subst (λ (z : ℕ). Slid above (this ++ (z ∷ [])) (suc x) w′) ep (slides w w′ x p (r .slid) b (subst (λ (z : ℕ). z ≤ 1) (sym ep) (pel-bit row x)) wa wt);
-            lawful = set-lawful t cx (v .entry) (r .lawful) (pelled-lawful c (getD t cx 0) p v (r .lawful cx) k);
-            ready = pelled-ready c (getD t cx 0) p v (r .ready) k;
-            count = omega (arith, r .count, pelled-count c (getD t cx 0) p v k);
+            lawful = set-lawful t cx (v .entry) (r .lawful) (pelled-lawful c (getD t cx 0) (eqb p (getD t cx 0 % 2)) v (r .lawful cx) k);
+            ready = pelled-ready c (getD t cx 0) (eqb p (getD t cx 0 % 2)) v (r .ready) k;
+            count = omega (arith, r .count, pelled-count c (getD t cx 0) (eqb p (getD t cx 0 % 2)) v k);
             passed = h;
           }
 

@@ -19,10 +19,11 @@ use template::Window;
 // No code is longer.
 pub const MAX_CODE: usize = 32768;
 
-// What a pel gives: the registers, its context's entry, and the bytes settled, two at the most.
+// What a pel gives: the registers, its context's entry, its shifts, and the bytes settled, two at the most.
 pub struct Pel {
     pub coder: Coder,
     pub entry: u8,
+    pub shifts: u64,
     pub settled: usize,
     pub first: u8,
     pub second: u8,
@@ -44,18 +45,18 @@ pub struct Wrote {
     pub last: [u8; 256],
 }
 
-// One pel, in the context whose entry is e.
-pub fn put_pel(coder: Coder, e: u8, p: u8) -> Pel
+// One pel in the context whose entry is e: the expected one, or the other.
+pub fn put_pel(coder: Coder, e: u8, expected: bool) -> Pel
     requires { ⌜ Ready (lift coder []) × LawfulEntry e × (coder .interval .count < 2 ^ 32) ⌝ }
-    ensures { λ r. ⌜ Pelled coder e p r ⌝ }
+    ensures { λ r. ⌜ Pelled coder e expected r ⌝ }
 {
-    let expected = p == e % 2;
     let v = coder.pel(estimate::row_of(e), expected);
     let next = v.coder;
     if v.shifts == 0 {
         return Pel {
             coder: next,
             entry: e,
+            shifts: v.shifts,
             settled: v.settled,
             first: v.first,
             second: v.second,
@@ -65,6 +66,7 @@ pub fn put_pel(coder: Coder, e: u8, p: u8) -> Pel
     Pel {
         coder: next,
         entry: entry,
+        shifts: v.shifts,
         settled: v.settled,
         first: v.first,
         second: v.second,
@@ -85,7 +87,7 @@ pub fn write_row(row: &[u8], above: &[u8], width: usize, start: Run, out: &mut [
         let p = template::pel_at(row, x);
         let cx = 4 * window.above + window.this;
         let e = table.entries[cx];
-        let v = put_pel(coder, e, p);
+        let v = put_pel(coder, e, p == e % 2);
         table.entries[cx] = v.entry;
         coder = v.coder;
         at = store::put_two(out, at, v.settled, v.first, v.second);

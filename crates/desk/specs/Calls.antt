@@ -2,6 +2,7 @@
 use mathlib.Core.Path.{_≡_}
 use mathlib.Core.Logic.{_≢_}
 use Prim.Native.Nat.{ℕ, zero, suc, _*_, _≤_}
+use mathlib.Core.Option.{Option, some, none}
 use mathlib.Core.Bool.{Bool, true, false, cond, not, _&&_, _||_}
 use mathlib.Core.List.{List, []}
 use lib.Dec.{eqb, leb, ltb}
@@ -10,7 +11,7 @@ use Rattle.estimate.specs.declared.Table.{Table}
 use Rattle.estimate.specs.Estimate.{fresh}
 use Rattle.store.specs.Store.{inFront}
 use Rattle.template.specs.Pels.{rowBytes, bandPadded}
-use Rattle.band.specs.Band.{maxWidth, maxRows, maxCode, white, Written, written, hasRoom}
+use Rattle.band.specs.Band.{maxWidth, maxRows, maxCode, white, Written, written, hasRoom, Right}
 use Rattle.desk.specs.declared.Key.{Key}
 use Rattle.desk.specs.declared.Opening.{Opening}
 use Rattle.desk.specs.declared.Ask.{Ask}
@@ -209,3 +210,22 @@ readTests d ask code out =
       padding = false;
       room = ltb (length out) (ask .rows * rowBytes (p .width));
     }
+
+-- by what was found in the code: the rows in front and the rest kept; or damaged
+unfoldable pub readSpec : Option (List ℕ) → Desk → Ask → List ℕ → List ℕ → Outcome
+readSpec (some band) d ask code out =
+    let w : Written = bandOf (pageAt d (pageFound d (ask .key))) (ask .rows) band in
+    unless (refusal (readTests d ask code out)) d (done (length band) (w .shifts) (bandDesk d (ask .key) w))
+readSpec none d ask code out = unless (refusal (readTests d ask code out)) d (refused 10 d)
+
+unfoldable pub readLent : Option (List ℕ) → Desk → Ask → List ℕ → List ℕ → List ℕ
+readLent (some band) d ask code out = unlessLent (refusal (readTests d ask code out)) out (inFront band out)
+readLent none d ask code out = unlessLent (refusal (readTests d ask code out)) out (lentAfter 10 out)
+
+-- what a read may answer, where no other test refuses it: what is right of the code on the open page
+pub record ReadOutcome (d : Desk) (ask : Ask) (code out : List ℕ) (r : Outcome) (after : List ℕ) : Type 0 where
+  pub found : Option (List ℕ)
+  pub right : refusal (readTests d ask code out) ≡ 0
+      → Right (pageAt d (pageFound d (ask .key)) .width) (ask .rows) (pageAt d (pageFound d (ask .key)) .table .entries) (pageAt d (pageFound d (ask .key)) .last) code found
+  pub outcome : r ≡ readSpec found d ask code out
+  pub lent : after ≡ readLent found d ask code out

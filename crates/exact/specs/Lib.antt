@@ -2,3 +2,4 @@ pub mod Value
 pub mod End
 pub mod Ahead
 pub mod Code
+pub mod Reader

@@ -25,7 +25,7 @@ returns : tie.Need-returns
 returns c =
     let a = c .before .before .before .before .before .args in
     let v = rw (c .before .before .before .before .row-of .ensures) at (c .before .before .before .pel .ensures) in
-    pelled-still (a .coder) (a .e) (a .p) (c .before .before .before .pel .result) (v .0) (v .1) (v .2) (c .if1 .taken)
+    pelled-still (a .coder) (a .e) (a .expected) (c .before .before .before .pel .result) (v .0) (v .1) (v .2) (c .if1 .taken)
 
 -- src/lib.rt:43:9
 next-entry-requires : tie.Need-next-entry-requires
@@ -36,7 +36,7 @@ returns-2 : tie.Need-returns-2
 returns-2 c =
     let a = c .before .before .before .before .before .before .args in
     let v = rw (c .before .before .before .before .before .row-of .ensures) at (c .before .before .before .before .pel .ensures) in
-    pelled-moved (a .coder) (a .e) (a .p) (c .before .before .before .before .pel .result) (v .0) (v .1) (v .2) (c .before .if1 .left) _ (c .next-entry .ensures)
+    pelled-moved (a .coder) (a .e) (a .expected) (c .before .before .before .before .pel .result) (v .0) (v .1) (v .2) (c .before .if1 .left) _ (c .next-entry .ensures)
 
 pub put-pel-spec : {M : Type 1} → statement M
 put-pel-spec =
