@@ -108,7 +108,7 @@ seek-width (suc n) r i e =
     (by-cond₂ (λ (v : Sight) (j : Interval). v .width ≡ j .width) (ltb (r .width) 4096) (seek n (nearer (supplied r))) r (grown n (doubled i)) i
     (λ t. seek-width n (nearer (supplied r)) (doubled i) (ap (λ (k : ℕ). 2 * k) (supplied-width r ∙ e))) (λ t. e))
 
-taken-width : (q : ℕ) (b : Bool) (r : Sight) (i : Interval) → r .width ≡ i .width → taken q b r .width ≡ partOf (decision q b) i .width
+pub taken-width : (q : ℕ) (b : Bool) (r : Sight) (i : Interval) → r .width ≡ i .width → taken q b r .width ≡ partOf (decision q b) i .width
 taken-width q true r i e = ap (λ (k : ℕ). k - q) e
 taken-width q false r i e = refl
 

@@ -1,2 +1,3 @@
 pub mod Pels
 pub mod Window
+pub mod Packing
