@@ -22,7 +22,7 @@ use Rattle.exact.specs.Reader.{Sight, seek, decide, taken}
 use Rattle.template.specs.Pels.{pelsTo, context}
 use Rattle.template.specs.declared.Window.{Window}
 use Rattle.template.specs.Window.{Slid, slid-next, slid-small, length-pels, pels-bits}
-use Rattle.template.specs.Packing.{Row, row-next, pels-next}
+use Rattle.template.specs.Packing.{Row, row-next, pels-next, byte-room}
 use Rattle.band.specs.Band.{qScheme, qWriter, qPage}
 use Rattle.band.specs.Rows.{Pelled, bytesOf, stageOf, pageOf, through, page-within, page-full, step-within, few-bytes, pelled-ready, pelled-count, pelled-lawful}
 use Rattle.interval.specs.Interval.{decision, partOf}
@@ -37,9 +37,26 @@ unfoldable pub matchAt : List ℕ → ℕ → ℕ → Bool
 matchAt code zero b = true
 matchAt code (suc n) b = ltb n (length code) && eqb (getD code n 0) b
 
+pub match-first : (code : List ℕ) (at b : ℕ) → at ≡ 0 → true ≡ matchAt code at b
+unfolding matchAt
+match-first code zero b e = refl
+match-first code (suc n) b e = absurd (omega arith)
+
+pub match-later : (code : List ℕ) (at b : ℕ) (r : Bool) → (at ≡ 0 → ⊥) → (ltb (at - 1) (length code) && eqb (getD code (at - 1) 0) b) ≡ r → r ≡ matchAt code at b
+unfolding matchAt
+match-later code zero b r h e = absurd (h refl)
+match-later code (suc n) b r h e = sym e ∙ ap (λ (k : ℕ). ltb k (length code) && eqb (getD code k 0) b) (less n)
+  where
+    less : (n : ℕ) → suc n - 1 ≡ n
+    less n = omega arith
+
 unfoldable pub matches : List ℕ → ℕ → List ℕ → Bool
 matches code at [] = true
 matches code at (b ∷ bs) = matchAt code at b && matches code (suc at) bs
+
+pub and-true : (g : Bool) → (g && true) ≡ g
+and-true true = refl
+and-true false = refl
 
 and-assoc : (a b c : Bool) → ((a && b) && c) ≡ (a && (b && c))
 and-assoc true b c = refl
@@ -57,17 +74,18 @@ told-again : (s : ℕ) (b : Bool) → s ≤ 1 → eqb (pelOf s b) s ≡ b
 told-again s true h = borrow.Author.Tests.eq-eqb s s refl
 told-again s false h = borrow.Author.Tests.ne-eqb (1 - s) s (λ e. omega arith)
 
-module _ (width : ℕ) (above t₀ : List ℕ) (c₀ : Coder) (code : List ℕ) (at₀ : ℕ) (good₀ : Bool) (v₀ : View) where
-  abbrev pub reads : ℕ → Page → Sight → List ℕ
-  reads n m r = readPels (qPage width) qReader n m r
+-- the n pels that are read
+abbrev pub reads : ℕ → ℕ → Page → Sight → List ℕ
+reads width n m r = readPels (qPage width) qReader n m r
 
+module _ (width : ℕ) (above t₀ : List ℕ) (c₀ : Coder) (code : List ℕ) (at₀ : ℕ) (good₀ : Bool) (v₀ : View) where
   abbrev pub begun : Stage (qPage width) qWriter
   begun = stageOf width (pageOf width t₀ above []) (lift c₀ [])
 
   pub record RowRead (row t : List ℕ) (c : Coder) (w : Window) (v : View) (at : ℕ) (good : Bool) (x : ℕ) : Type 0 where
     pub settled : List ℕ
     pub stage : through width begun (pelsTo row x) ≡ stageOf width (pageOf width t above (pelsTo row x)) (lift c settled)
-    pub read : (n : ℕ) → reads (x + n) (pageOf width t₀ above []) (sightOf v₀ (c₀ .interval .width) code) ≡ pelsTo row x ++ reads n (pageOf width t above (pelsTo row x)) (sightOf v (c .interval .width) code)
+    pub read : (n : ℕ) → reads width (x + n) (pageOf width t₀ above []) (sightOf v₀ (c₀ .interval .width) code) ≡ pelsTo row x ++ reads width n (pageOf width t above (pelsTo row x)) (sightOf v (c .interval .width) code)
     pub matched : good ≡ (good₀ && matches code at₀ settled)
     pub place : at ≡ at₀ + length settled
     pub few : length settled ≤ 2 * x
@@ -81,18 +99,36 @@ module _ (width : ℕ) (above t₀ : List ℕ) (c₀ : Coder) (code : List ℕ) 
     pub small : v .x < 2 ^ 32
     pub passed : x ≤ width
 
+  -- the numbers in the loop
+  pub read-window : (row t : List ℕ) (c : Coder) (w : Window) (v : View) (at : ℕ) (good : Bool) (x : ℕ) → ((y : ℕ) → getD above y 0 ≤ 1) → RowRead row t c w v at good x
+      → (w .above < 32) × (w .this < 4)
+  read-window row t c w v at good x b f = slid-small above (pelsTo row x) x w b (pels-bits row x) (f .slid)
+
+  -- there is room for the pel in its byte
+  pub read-room : (row t : List ℕ) (c : Coder) (w : Window) (v : View) (at : ℕ) (good : Bool) (x p : ℕ) → RowRead row t c w v at good x → x < 2048 → p ≤ 1 → getD row (x / 8) 0 + p * 2 ^ (7 - x % 8) ≤ 255
+  read-room row t c w v at good x p f h b = byte-room row x p (f .packed) h b
+
   pub read-start : (w : Window) → Slid above [] 0 w → LawfulTable t₀ → Ready (lift c₀ []) → Row (replicate 256 0) 0 → v₀ .at ≤ length code → v₀ .look ≤ 7 → v₀ .x < 2 ^ 32
       → RowRead (replicate 256 0) t₀ c₀ w v₀ at₀ good₀ 0
   unfolding pelsTo after matches
   read-start w s l r p a b d =
       record {
-        settled = []; stage = refl; read = λ n. ap (λ (k : ℕ). reads k (pageOf width t₀ above []) (sightOf v₀ (c₀ .interval .width) code)) (native.Mathlib.Nat.zero-add n);
-        matched = sym (and-true good₀); place = omega arith; few = omega arith; slid = s; lawful = l; ready = r; count = omega arith; packed = p;
-        within = a; near = b; small = d; passed = omega arith }
-    where
-      and-true : (g : Bool) → (g && true) ≡ g
-      and-true true = refl
-      and-true false = refl
+        settled = [];
+        stage = refl;
+        read = λ n. ap (λ (k : ℕ). reads width k (pageOf width t₀ above []) (sightOf v₀ (c₀ .interval .width) code)) (native.Mathlib.Nat.zero-add n);
+        matched = sym (and-true good₀);
+        place = omega arith;
+        few = omega arith;
+        slid = s;
+        lawful = l;
+        ready = r;
+        count = omega arith;
+        packed = p;
+        within = a;
+        near = b;
+        small = d;
+        passed = omega arith;
+      }
 
   -- one pel more
   module _ (row t : List ℕ) (c : Coder) (w : Window) (v : View) (at : ℕ) (good : Bool) (x : ℕ) (f : RowRead row t c w v at good x) (h : x < width) (narrow : width ≤ 2048)
@@ -154,14 +190,14 @@ module _ (width : ℕ) (above t₀ : List ℕ) (c₀ : Coder) (code : List ℕ) 
           ap (λ (z : ℕ). move qScheme width under p (ltb z 0x1000)) (taken-width (rowOf e) (told .expected) seen (c .interval) refl)
           ∙ ap (λ (b : Bool). move qScheme width under p (ltb (partOf (decision (rowOf e) b) (c .interval) .width) 0x1000)) (sym same)
           ∙ ap (λ (s : Stage (qPage width) qWriter). s .model)
-              (sym (ap (λ (m : Page). step (qPage width) qWriter (stageOf width m (lift c (f .settled))) p) within-row) ∙ next-step)
+          (sym (ap (λ (m : Page). step (qPage width) qWriter (stageOf width m (lift c (f .settled))) p) within-row) ∙ next-step)
 
-      one-read : (n : ℕ) → reads (suc n) (pageOf width t above this) seen ≡ p ∷ reads n (pageOf width t′ above (this ++ (p ∷ []))) (sightOf (told .view) (u .coder .interval .width) code)
+      one-read : (n : ℕ) → reads width (suc n) (pageOf width t above this) seen ≡ p ∷ reads width n (pageOf width t′ above (this ++ (p ∷ []))) (sightOf (told .view) (u .coder .interval .width) code)
       unfolding readPels size sense entryAt contextOf
       one-read n =
-          ap (λ (m : Page). reads (suc n) m seen) within-row
-          ∙ ap (λ (b : Bool). pelOf (e % 2) b ∷ reads n (move qScheme width under (pelOf (e % 2) b) (ltb (taken (rowOf e) b seen .width) 0x1000)) (seek 12 (taken (rowOf e) b seen))) (sym (k .asked))
-          ∙ ap₂ (λ (m : Page) (r : Sight). p ∷ reads n m r) next-model (sym (k .sight))
+          ap (λ (m : Page). reads width (suc n) m seen) within-row
+          ∙ ap (λ (b : Bool). pelOf (e % 2) b ∷ reads width n (move qScheme width under (pelOf (e % 2) b) (ltb (taken (rowOf e) b seen .width) 0x1000)) (seek 12 (taken (rowOf e) b seen))) (sym (k .asked))
+          ∙ ap₂ (λ (m : Page) (r : Sight). p ∷ reads width n m r) next-model (sym (k .sight))
 
       abbrev row′ : List ℕ
       row′ = set row (x / 8) (getD row (x / 8) 0 + p * 2 ^ (7 - x % 8))
@@ -173,7 +209,7 @@ module _ (width : ℕ) (above t₀ : List ℕ) (c₀ : Coder) (code : List ℕ) 
       next-slid w′ wa wt =
           let l : length this ≡ x = length-pels row x in
           let n = subst (λ (j : ℕ). Slid above (this ++ (p ∷ [])) (suc j) (record { above = (2 * w .above + getD above (j + 3) 0) % 32; this = (2 * w .this + p) % 4 })) l
-                    (slid-next above this p w bits (pels-bits row x) p-bit (subst (λ (j : ℕ). Slid above this j w) (sym l) (f .slid))) in
+          (slid-next above this p w bits (pels-bits row x) p-bit (subst (λ (j : ℕ). Slid above this j w) (sym l) (f .slid))) in
           record { five = wa ∙ n .five; two = wt ∙ n .two }
 
       pub read-again : (w′ : Window) (at′ : ℕ) (good′ : Bool) → w′ .above ≡ (2 * w .above + getD above (x + 3) 0) % 32 → w′ .this ≡ (2 * w .this + p) % 4
@@ -186,12 +222,12 @@ module _ (width : ℕ) (above t₀ : List ℕ) (c₀ : Coder) (code : List ℕ) 
             settled = f .settled ++ bytesOf u;
             stage = subst (λ (l : List ℕ). through width begun l ≡ stageOf width (pageOf width t′ above l) (lift (u .coder) (f .settled ++ bytesOf u))) (sym pels-are) next-stage;
             read = λ j.
-              subst (λ (l : List ℕ). reads (suc x + j) (pageOf width t₀ above []) (sightOf v₀ (c₀ .interval .width) code) ≡ l ++ reads j (pageOf width t′ above l) (sightOf (told .view) (u .coder .interval .width) code)) (sym pels-are)
-                (ap (λ (i : ℕ). reads i (pageOf width t₀ above []) (sightOf v₀ (c₀ .interval .width) code)) (suc-add x j ∙ sym (add-suc x j)) ∙ f .read (suc j)
-                 ∙ ap (λ (l : List ℕ). this ++ l) (one-read j) ∙ sym (append-assoc this (p ∷ []) (reads j (pageOf width t′ above (this ++ (p ∷ []))) (sightOf (told .view) (u .coder .interval .width) code))));
+                subst (λ (l : List ℕ). reads width (suc x + j) (pageOf width t₀ above []) (sightOf v₀ (c₀ .interval .width) code) ≡ l ++ reads width j (pageOf width t′ above l) (sightOf (told .view) (u .coder .interval .width) code)) (sym pels-are)
+                (ap (λ (i : ℕ). reads width i (pageOf width t₀ above []) (sightOf v₀ (c₀ .interval .width) code)) (suc-add x j ∙ sym (add-suc x j)) ∙ f .read (suc j)
+                ∙ ap (λ (l : List ℕ). this ++ l) (one-read j) ∙ sym (append-assoc this (p ∷ []) (reads width j (pageOf width t′ above (this ++ (p ∷ []))) (sightOf (told .view) (u .coder .interval .width) code))));
             matched =
-              eg ∙ ap₂ (λ (b : Bool) (i : ℕ). b && matches code i (bytesOf u)) (f .matched) (f .place) ∙ and-assoc good₀ (matches code at₀ (f .settled)) (matches code (at₀ + length (f .settled)) (bytesOf u))
-              ∙ ap (λ (b : Bool). good₀ && b) (sym (matches-append code at₀ (f .settled) (bytesOf u)));
+                eg ∙ ap₂ (λ (b : Bool) (i : ℕ). b && matches code i (bytesOf u)) (f .matched) (f .place) ∙ and-assoc good₀ (matches code at₀ (f .settled)) (matches code (at₀ + length (f .settled)) (bytesOf u))
+                ∙ ap (λ (b : Bool). good₀ && b) (sym (matches-append code at₀ (f .settled) (bytesOf u)));
             place = omega (arith, f .place);
             few = omega (arith, f .few, k .pelled .few);
             slid = subst (λ (l : List ℕ). Slid above l (suc x) w′) (sym pels-are) (next-slid w′ wa wt);
@@ -199,4 +235,20 @@ module _ (width : ℕ) (above t₀ : List ℕ) (c₀ : Coder) (code : List ℕ) 
             ready = pelled-ready c e (told .expected) u (f .ready) (k .pelled);
             count = omega (arith, f .count, pelled-count c e (told .expected) u (k .pelled));
             packed = row-next row x p (f .packed) (omega arith) p-bit;
-            within = k .within; near = k .near; small = k .small; passed = h }
+            within = k .within;
+            near = k .near;
+            small = k .small;
+            passed = h;
+          }
+
+    -- the same, with the numbers as the code has them
+    pub read-turn : (cx′ p′ weight : ℕ) (w′ : Window) (at′ : ℕ) (good′ : Bool) → cx′ ≡ context above this x → ReadPel c v code (getD t cx′ 0) told → p′ ≡ pelOf (getD t cx′ 0 % 2) (told .expected)
+        → weight ≡ p′ * 2 ^ (7 - x % 8) → w′ .above ≡ (2 * w .above + getD above (x + 3) 0) % 32 → w′ .this ≡ (2 * w .this + p′) % 4
+        → at′ ≡ at + u .settled → good′ ≡ (good && matches code at (bytesOf u))
+        → RowRead (set row (x / 8) (getD row (x / 8) 0 + weight)) (set t cx′ (u .entry)) (u .coder) w′ (told .view) at′ good′ (suc x)
+    read-turn cx′ p′ weight w′ at′ good′ ec k ep ew wa wt ea eg =
+        let ec′ : cx′ ≡ cx = ec ∙ ap (context above this) (sym (length-pels row x)) in
+        let ep′ : p′ ≡ p = ep ∙ ap (λ (z : ℕ). pelOf (getD t z 0 % 2) (told .expected)) ec′ in
+        let r = read-again (subst (λ (z : ℕ). ReadPel c v code (getD t z 0) told) ec′ k) w′ at′ good′ wa (wt ∙ ap (λ (z : ℕ). (2 * w .this + z) % 4) ep′) ea eg in
+        subst (λ (z : ℕ). RowRead (set row (x / 8) (getD row (x / 8) 0 + z)) (set t cx′ (u .entry)) (u .coder) w′ (told .view) at′ good′ (suc x)) (sym (ew ∙ ap (λ (z : ℕ). z * 2 ^ (7 - x % 8)) ep′))
+        (subst (λ (z : ℕ). RowRead (set row (x / 8) (getD row (x / 8) 0 + p * 2 ^ (7 - x % 8))) (set t z (u .entry)) (u .coder) w′ (told .view) at′ good′ (suc x)) (sym ec′) r)

@@ -1,18 +1,24 @@
 // Bands read back: the reader is the writer, told each pel by the code.
 ghost use mathlib.Core.Path.{_≡_};
-ghost use mathlib.Core.Bool.{Bool};
-ghost use mathlib.Core.List.{[]};
+ghost use mathlib.Core.Bool.{Bool, _&&_};
+ghost use mathlib.Core.List.{[], _∷_};
 ghost use Prim.Native.Nat.{ℕ, _+_, _-_, _*_, _%_, _≤_, _<_, _^_};
-ghost use lib.ListN.{length, drop, getD};
-ghost use Rattle.estimate.specs.Estimate.{rowOf, LawfulEntry};
+ghost use lib.ListN.{length, take, drop, getD};
+ghost use Rattle.estimate.specs.Estimate.{rowOf, LawfulEntry, LawfulTable};
 ghost use Rattle.octets.specs.Octets.{bits};
+ghost use Rattle.coder.specs.Reading.{pelOf};
+ghost use Rattle.template.specs.Pels.{pelsTo};
 ghost use Rattle.octets.specs.Fit.{Ready};
 ghost use Rattle.octets.specs.Lift.{lift};
 ghost use Rattle.exact.specs.Reader.{opened, decide, seek, taken};
 ghost use Rattle.exact.specs.Reader as law;
 ghost use Rattle.reader.specs.Views.{sightOf, seeks, ReadPel};
+ghost use Rattle.reader.specs.ReadRow.{matchAt, matches};
+ghost use Rattle.reader.specs.Lines.{LineRead};
 use band::Pel;
+use estimate::Table;
 use octets::Coder;
+use template::Window;
 
 // What is in sight of a code: its bits read so far less the low end, how many of them lie ahead, the byte last read, and where the next stands.
 pub struct View {
@@ -142,5 +148,118 @@ pub fn read_pel(coder: Coder, view: View, code: &[u8], e: u8) -> Told
         expected: false,
         view: next,
         pel: v,
+    }
+}
+
+// Where a reading stands: the writer's registers, the table, the bytes settled so far, whether each agreed with the code, and what is in sight.
+pub struct Reading {
+    pub coder: Coder,
+    pub table: Table,
+    pub at: usize,
+    pub good: bool,
+    pub view: View,
+}
+
+// A row read, in the room that a page has for its last row, and where the reading stands then.
+pub struct Line {
+    pub row: [u8; 256],
+    pub reading: Reading,
+}
+
+// Whether a settled byte is the code's; the very first, which is no part of the code, always is.
+pub fn match_one(code: &[u8], at: usize, b: u8) -> bool
+    ensures { λ r. ⌜ r ≡ matchAt (now (code .entry)) at b ⌝ }
+{
+    if at == 0 {
+        return true;
+    }
+    if at - 1 < code.len() {
+        return code[at - 1] == b;
+    }
+    false
+}
+
+// Whether the first n of two settled bytes are the code's too.
+pub fn match_two(code: &[u8], at: usize, n: usize, first: u8, second: u8, good: bool) -> bool
+    requires { ⌜ (at < 900000000) × (n ≤ 2) ⌝ }
+    ensures { λ r. ⌜ r ≡ (good && matches (now (code .entry)) at (take n (first ∷ second ∷ []))) ⌝ }
+{
+    if n == 0 {
+        return good;
+    }
+    if !good {
+        return false;
+    }
+    let one = match_one(code, at, first);
+    if n == 1 {
+        return one;
+    }
+    if one {
+        return match_one(code, at + 1, second);
+    }
+    false
+}
+
+// The pel that is the expected one, or the other.
+pub fn pel_told(e: u8, expected: bool) -> u8
+    ensures { λ r. ⌜ (r ≡ pelOf (e % 2) expected) × (r ≤ 1) ⌝ }
+{
+    if expected {
+        return e % 2;
+    }
+    1 - e % 2
+}
+
+// A pel at its place in a byte.
+pub fn pel_in_byte(p: u8, x: usize) -> u8
+    requires { ⌜ p ≤ 1 ⌝ }
+    ensures { λ r. ⌜ (r ≡ p * 2 ^ (7 - x % 8)) × (r ≤ 128) ⌝ }
+{
+    if p == 0 {
+        return 0;
+    }
+    1u8 << (7 - x % 8)
+}
+
+// One row, under the row above it.
+pub fn read_row(code: &[u8], above: &[u8], width: usize, start: Reading) -> Line
+    requires { ⌜ (width ≤ 2048) × (width ≤ 8 * length (now above)) × (1 ≤ width) × LawfulTable (start .table .entries) × Ready (lift (start .coder) []) × (start .coder .interval .count < 2 ^ 31) × (start .at < 800000000)
+        × (start .view .at ≤ length (now code)) × (start .view .look ≤ 7) × (start .view .x < 2 ^ 32) ⌝ }
+    ensures { λ r. ⌜ LineRead width (pelsTo (now (above .entry)) width) (now (code .entry)) start r ⌝ }
+{
+    let mut coder = start.coder;
+    let mut table = start.table;
+    let mut at = start.at;
+    let mut good = start.good;
+    let mut view = start.view;
+    let mut window = Window::start(above, width);
+    let mut row = [0u8; 256];
+    let mut x: usize = 0;
+    while x < width {
+        let cx = 4 * window.above + window.this;
+        let e = table.entries[cx];
+        let told = read_pel(coder, view, code, e);
+        let p = pel_told(e, told.expected);
+        let v = told.pel;
+        table.entries[cx] = v.entry;
+        coder = v.coder;
+        view = told.view;
+        good = match_two(code, at, v.settled, v.first, v.second, good);
+        at = at + v.settled;
+        let i = x / 8;
+        row[i] = row[i] + pel_in_byte(p, x);
+        window = window.slide(above, width, x, p);
+        x += 1;
+    }
+    let reading = Reading {
+        coder: coder,
+        table: table,
+        at: at,
+        good: good,
+        view: view,
+    };
+    Line {
+        row: row,
+        reading: reading,
     }
 }

@@ -102,6 +102,9 @@ module _ (row : List ℕ) (x p : ℕ) (w : Row row x) (fits : x < 2048) (bit : p
   byte : Filled b p q (2 ^ r) (pow-pos (7 - r)) (weight-whole r (omega arith)) (w .octets i) (subst (λ (y : ℕ). b % y ≡ 0) (double-weight r (omega arith)) (w .clear)) bit
   byte = filled b p q (2 ^ r) (pow-pos (7 - r)) (weight-whole r (omega arith)) (w .octets i) (subst (λ (y : ℕ). b % y ≡ 0) (double-weight r (omega arith)) (w .clear)) bit
 
+  pub byte-room : b + p * q ≤ 255
+  byte-room = byte .octet
+
   at-i : getD next i 0 ≡ b + p * q
   at-i = getD-set-same row i (b + p * q) 0 (omega (arith, w .size))
 
@@ -156,6 +159,7 @@ module _ (row : List ℕ) (x p : ℕ) (w : Row row x) (fits : x < 2048) (bit : p
     where
       no-rest : (n : ℕ) → 1 ≤ n → 0 % n ≡ 0
       no-rest n h = native.Mathlib.Nat.mod-eq-of-lt h
+
       go : Dec (r < 7) → getD next (suc x / 8) 0 % 2 ^ (8 - suc x % 8) ≡ 0
       go (yes h) =
           let e : suc x / 8 ≡ i = omega arith in
@@ -169,5 +173,8 @@ module _ (row : List ℕ) (x p : ℕ) (w : Row row x) (fits : x < 2048) (bit : p
   pub row-next : Row next (suc x)
   row-next =
       record {
-        size = length-set row i (b + p * q) ∙ w .size; octets = octet-next; clear = clear-next;
-        zeros = λ j h. at-other j (λ e. omega arith) ∙ w .zeros j (omega arith) }
+        size = length-set row i (b + p * q) ∙ w .size;
+        octets = octet-next;
+        clear = clear-next;
+        zeros = λ j h. at-other j (λ e. omega arith) ∙ w .zeros j (omega arith);
+      }
