@@ -29,7 +29,7 @@ use Rattle.band.specs.Rows.{stageOf, pageOf, through, RowDone, lift-behi
 
 module _ (width : ℕ) where
   -- the bytes before stay before
-  behind-through : (ps : List ℕ) (m : Page) (xs : List ℕ) (w : Registers)
+  pub behind-through : (ps : List ℕ) (m : Page) (xs : List ℕ) (w : Registers)
       → through width (stageOf width m (behind xs w)) ps ≡ stageOf width (through width (stageOf width m w) ps .model) (behind xs (through width (stageOf width m w) ps .writer))
   unfolding after
   behind-through [] m xs w = refl

@@ -3,6 +3,7 @@ ghost use mathlib.Core.Path.{_≡_};
 ghost use mathlib.Core.List.{[], _∷_};
 ghost use Prim.Native.Nat.{ℕ, _+_, _*_, _≤_, _<_};
 ghost use lib.ListN.{length, take};
+ghost use lib.Seq.{paste};
 ghost use Rattle.store.specs.Store.{cleared, front, storeAt, stores};
 
 // All of the buffer zero.
@@ -58,6 +59,18 @@ pub fn put_last(out: &mut [u8], at: usize, bytes: [u8; 5], n: usize) -> usize
         i += 1;
     }
     next
+}
+
+// The first n bytes of a row, at a place of the buffer.
+pub fn put_row(out: &mut [u8], from: usize, row: [u8; 256], n: usize)
+    requires { ⌜ (n ≤ 256) × (from + n ≤ length (now out)) ⌝ }
+    ensures { λ _. ⌜ now (out .exit) ≡ paste (now (out .entry)) from row n ⌝ }
+{
+    let mut i: usize = 0;
+    while i < n {
+        out[from + i] = row[i];
+        i += 1;
+    }
 }
 
 // The front part of the caller's own buffer: its first n bytes, or the empty part where n is more than its length.
