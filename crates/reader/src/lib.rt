@@ -263,3 +263,19 @@ pub fn read_row(code: &[u8], above: &[u8], width: usize, start: Reading) -> Line
         reading: reading,
     }
 }
+
+// What reading a band gives: whether there was room, whether the code was good, the bytes of all rows, S, and the table and last row after it.
+pub struct Read {
+    pub room: bool,
+    pub good: bool,
+    pub length: usize,
+    pub shifts: u64,
+    pub table: Table,
+    pub last: [u8; 256],
+}
+
+// The rows of a band: where the reading stands, and the last of them.
+pub struct Rows {
+    pub reading: Reading,
+    pub last: [u8; 256],
+}

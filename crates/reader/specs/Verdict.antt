@@ -1,0 +1,107 @@
+-- The comparison tells whether any band was written so. Assumes nothing.
+use mathlib.Core.Path.{_≡_, refl, sym, ap, ap₂, _∙_, subst}
+use mathlib.Core.Logic.{_⊎_, inl, inr}
+use Prim.Native.Nat.{ℕ, zero, suc, _+_, _-_, _*_, _≤_, _<_}
+use native.Mathlib.Nat.{zero-add, zero-mul, suc-mul, add-zero}
+use native.Mathlib.Omega.{arith}
+use mathlib.Core.Bool.{Bool, true, false, _&&_}
+use mathlib.Core.List.{List, [], _∷_, _++_, append-nil}
+use lib.ListN.{getD, length, drop, length-append, drop-of-length-le, length-drop}
+use lib.Seq.{drop-cons}
+use lib.Dec.{ltb, eqb}
+use borrow.Author.Tests.{ltb-true, eqb-true, lt-ltb, eq-eqb}
+use Rattle.coder.specs.Writing.{AllPels, bandCode}
+use Rattle.coder.specs.Reading.{readPels, written-read, no-two-bands}
+use Rattle.coder.specs.Page.{Page, size, sense, entryAt}
+use Rattle.estimate.specs.Laws.{Sized, row-sized}
+use Rattle.exact.specs.Reader.{opened}
+use Rattle.template.specs.Pels.{pelsTo, pelAt, rowAt, bandTo}
+use Rattle.template.specs.Window.{pel-bit, length-pels}
+use Rattle.band.specs.Band.{qScheme, qWriter, qPage, pageAt, written, IsBand}
+use Rattle.reader.specs.QCoder.{qReader, qCoder}
+use Rattle.reader.specs.ReadRow.{matchAt, matches}
+
+-- ---- the bytes that were compared
+both : (a b : Bool) → (a && b) ≡ true → (a ≡ true) × (b ≡ true)
+both true b e = (refl, e)
+both false b e = let z : _≡_ {A = ℕ} 0 1 = cc in absurd (omega arith)
+
+same-from : (code : List ℕ) (n : ℕ) (bs : List ℕ) → matches code (suc n) bs ≡ true → n + length bs ≡ length code → drop n code ≡ bs
+unfolding matches matchAt
+same-from code n [] e l = drop-of-length-le code {i = n} (omega arith)
+same-from code n (b ∷ bs) e l =
+    let k = both (ltb n (length code) && eqb (getD code n 0) b) (matches code (suc (suc n)) bs) e in
+    let m = both (ltb n (length code)) (eqb (getD code n 0) b) (k .0) in
+    drop-cons code n 0 (ltb-true n (length code) (m .0)) ∙ ap₂ (λ (x : ℕ) (xs : List ℕ). x ∷ xs) (eqb-true (getD code n 0) b (m .1)) (same-from code (suc n) bs (k .1) (omega arith))
+
+from-same : (code : List ℕ) (n : ℕ) (bs : List ℕ) → drop n code ≡ bs → n + length bs ≡ length code → matches code (suc n) bs ≡ true
+unfolding matches matchAt
+from-same code n [] e l = refl
+from-same code n (b ∷ bs) e l =
+    let h : n < length code = omega arith in
+    let k : getD code n 0 ∷ drop (suc n) code ≡ b ∷ bs = sym (drop-cons code n 0 h) ∙ e in
+    rw (lt-ltb n (length code) h, eq-eqb (getD code n 0) b (ap (λ (xs : List ℕ). getD xs 0 0) k)) (from-same code (suc n) bs (ap (λ (xs : List ℕ). drop 1 xs) k) (omega arith))
+
+-- all of them agreed, and there are as many as the code has
+pub agreed : (code all : List ℕ) → 1 ≤ length all → (matches code 0 all && eqb (length all - 1) (length code)) ≡ true → drop 1 all ≡ code
+unfolding matches matchAt
+agreed code [] h e = absurd (omega arith)
+agreed code (z ∷ bs) h e =
+    let k = both (matches code 1 bs) (eqb (suc (length bs) - 1) (length code)) e in
+    sym (same-from code 0 bs (k .0) (omega (arith, eqb-true (suc (length bs) - 1) (length code) (k .1))))
+
+pub agrees : (code all : List ℕ) → 1 ≤ length all → drop 1 all ≡ code → (matches code 0 all && eqb (length all - 1) (length code)) ≡ true
+unfolding matches matchAt
+agrees code [] h e = absurd (omega arith)
+agrees code (z ∷ bs) h e =
+    let l : length bs ≡ length code = ap length e in
+    rw (from-same code 0 bs (sym e) (omega arith), eq-eqb (suc (length bs) - 1) (length code) (omega arith)) refl
+
+-- ---- the pels of a band
+pels-append : (ps qs : List ℕ) → AllPels ps → AllPels qs → AllPels (ps ++ qs)
+pels-append [] qs a b = b
+pels-append (p ∷ ps) qs a b = (a .0, pels-append ps qs (a .1) b)
+
+row-pels : (row : List ℕ) (n : ℕ) → AllPels (pelsTo row n)
+unfolding pelsTo
+row-pels row zero = tt
+row-pels row (suc n) = pels-append (pelsTo row n) (pelAt row n ∷ []) (row-pels row n) (pel-bit row n, tt)
+
+pub band-pels : (width : ℕ) (band : List ℕ) (n : ℕ) → AllPels (bandTo width band n)
+unfolding bandTo
+band-pels width band zero = tt
+band-pels width band (suc n) = pels-append (bandTo width band n) (pelsTo (rowAt width band n) width) (band-pels width band n) (row-pels (rowAt width band n) width)
+
+pub band-size : (width : ℕ) (band : List ℕ) (n : ℕ) → length (bandTo width band n) ≡ n * width
+unfolding bandTo
+band-size width band zero = sym (zero-mul width)
+band-size width band (suc n) =
+    length-append (bandTo width band n) (pelsTo (rowAt width band n) width) ∙ ap₂ (λ (j k : ℕ). j + k) (band-size width band n) (length-pels (rowAt width band n) width) ∙ sym (suc-mul n width)
+
+-- ---- any band that was written as the code is the one that is read
+module _ (width : ℕ) where
+  sized : (m : Page) → Sized (size qScheme width m)
+  unfolding size
+  sized m = row-sized (entryAt qScheme width m)
+
+  bit : (m : Page) → sense qScheme width m ≤ 1
+  unfolding sense
+  bit m = omega arith
+
+  pub reads-written : (rows : ℕ) (table last code band : List ℕ) → written width rows table last band .code ≡ code
+      → readPels (qPage width) qReader (rows * width) (pageAt width table last) (opened code) ≡ bandTo width band rows
+  unfolding written
+  reads-written rows table last code band e =
+      written-read (qPage width) qWriter qReader Sized qCoder sized bit (pageAt width table last) (rows * width) code (bandTo width band rows) (band-pels width band rows) (band-size width band rows) e
+
+  -- two bands of one size with one code have the same pels
+  pub same-pels : (rows : ℕ) (table last a b : List ℕ) → written width rows table last a .code ≡ written width rows table last b .code → bandTo width a rows ≡ bandTo width b rows
+  unfolding written
+  same-pels rows table last a b e =
+      no-two-bands (qPage width) qWriter qReader Sized qCoder sized bit (pageAt width table last) (bandTo width a rows) (bandTo width b rows) (band-pels width a rows) (band-pels width b rows)
+        (band-size width a rows ∙ sym (band-size width b rows)) e
+
+  -- and a band's code, S and table are those of its pels
+  pub code-of-pels : (rows : ℕ) (table last a b : List ℕ) → bandTo width a rows ≡ bandTo width b rows → written width rows table last a .code ≡ written width rows table last b .code
+  unfolding written
+  code-of-pels rows table last a b e = ap (bandCode (qPage width) qWriter (pageAt width table last)) e
