@@ -107,6 +107,11 @@ module _ (width : ℕ) where
           }
 
 -- ---- the end of a band
+-- the last bytes come after those that were settled
+pub finish-behind : (c : Coder) (xs lasts : List ℕ) → lasts ≡ bytes (finish (lift c [])) → bytes (finish (lift c xs)) ≡ xs ++ lasts
+finish-behind c xs lasts e =
+    ap (λ (w : Registers). bytes (finish w)) (lift-behind c xs) ∙ ap bytes (behind-finish xs (lift c [])) ∙ bytes-behind xs (finish (lift c [])) ∙ ap (λ (l : List ℕ). xs ++ l) (sym e)
+
 both-left : (x y : Bool) → (x && y) ≡ true → x ≡ true
 both-left true y e = refl
 both-left false y e = e
@@ -121,14 +126,9 @@ module _ (width rows : ℕ) (last band t₀ out₀ above t : List ℕ) (c : Code
   abbrev pub all : List ℕ
   all = b .settled ++ lasts
 
-  all-bytes : bytes (finish (lift c (b .settled))) ≡ all
-  all-bytes =
-      ap (λ (w : Registers). bytes (finish w)) (lift-behind c (b .settled)) ∙ ap bytes (behind-finish (b .settled) (lift c [])) ∙ bytes-behind (b .settled) (finish (lift c []))
-      ∙ ap (λ (l : List ℕ). b .settled ++ l) (sym e)
-
   pub end-code : written width rows t₀ last band .code ≡ drop 1 all
   unfolding written code
-  end-code = ap (λ (s : Stage (qPage width) qWriter). code (s .writer)) (b .stage) ∙ ap (drop 1) all-bytes
+  end-code = ap (λ (s : Stage (qPage width) qWriter). code (s .writer)) (b .stage) ∙ ap (drop 1) (finish-behind c (b .settled) lasts e)
 
   pub end-shifts : written width rows t₀ last band .shifts ≡ c .interval .count
   unfolding written

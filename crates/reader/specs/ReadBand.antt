@@ -89,7 +89,7 @@ module _ (width : ℕ) (row : List ℕ) (w : Row row width) (some : 1 ≤ width)
   rest-zero : drop n row ≡ replicate (256 - n) 0
   rest-zero =
       ext-getD 0 (drop n row) (replicate (256 - n) 0) (length-drop n row ∙ omega (arith, w .size, length-replicate {A = ℕ} (256 - n) 0))
-        (λ i h. getD-drop n row i 0 ∙ beyond (n + i) (omega arith) ∙ sym (getD-replicate {A = ℕ} (256 - n) i 0 0 (omega (arith, w .size, length-drop n row, h))))
+      (λ i h. getD-drop n row i 0 ∙ beyond (n + i) (omega arith) ∙ sym (getD-replicate {A = ℕ} (256 - n) i 0 0 (omega (arith, w .size, length-drop n row, h))))
 
   pub row-is : row ≡ front ++ replicate (256 - n) 0
   row-is = sym (take-append-drop n row) ∙ ap (λ (l : List ℕ). front ++ l) rest-zero

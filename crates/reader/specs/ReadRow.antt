@@ -6,7 +6,8 @@ use native.Mathlib.Nat.{add-suc, suc-add}
 use native.Mathlib.Omega.{arith}
 use mathlib.Core.Bool.{Bool, true, false, cond, _&&_}
 use mathlib.Core.List.{List, [], _∷_, _++_, append-assoc}
-use lib.ListN.{getD, set, length, drop, replicate, length-append}
+use lib.ListN.{getD, set, length, take, drop, replicate, length-append}
+use lib.Seq.{length-take-le, take-suc}
 use lib.Dec.{ltb, eqb}
 use Rattle.ground.specs.Tests.{if-eq, if-ne}
 use Rattle.coder.specs.Writing.{Stage, step, after, after-append}
@@ -68,6 +69,14 @@ matches-append code at [] ys = ap (λ (k : ℕ). matches code k ys) (sym (native
 matches-append code at (x ∷ xs) ys =
     ap (λ (b : Bool). matchAt code at x && b) (matches-append code (suc at) xs ys ∙ ap (λ (k : ℕ). matches code (suc at) xs && matches code k ys) (suc-add at (length xs) ∙ sym (add-suc at (length xs))))
     ∙ sym (and-assoc (matchAt code at x) (matches code (suc at) xs) (matches code (at + suc (length xs)) ys))
+
+-- one byte more of a list
+pub matches-next : (code xs : List ℕ) (at i : ℕ) (good same same′ : Bool) → i < length xs → same ≡ (good && matches code at (take i xs)) → same′ ≡ (same && matches code (at + i) (getD xs i 0 ∷ []))
+    → same′ ≡ (good && matches code at (take (suc i) xs))
+matches-next code xs at i good same same′ h e f =
+    let l : length (take i xs) ≡ i = length-take-le i xs (omega arith) in
+    f ∙ ap₂ (λ (b : Bool) (k : ℕ). b && matches code (at + k) (getD xs i 0 ∷ [])) e (sym l) ∙ and-assoc good (matches code at (take i xs)) (matches code (at + length (take i xs)) (getD xs i 0 ∷ []))
+    ∙ ap (λ (b : Bool). good && b) (sym (matches-append code at (take i xs) (getD xs i 0 ∷ [])) ∙ ap (matches code at) (sym (take-suc xs i 0 h)))
 
 -- the pel that was told is expected exactly where the reader said so
 told-again : (s : ℕ) (b : Bool) → s ≤ 1 → eqb (pelOf s b) s ≡ b

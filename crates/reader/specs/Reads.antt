@@ -1,7 +1,7 @@
 -- A band read: what holds after y rows, and a row more. Assumes nothing.
 use mathlib.Core.Path.{_≡_, refl, sym, ap, ap₂, _∙_, subst}
 use Prim.Native.Nat.{ℕ, zero, suc, _+_, _-_, _*_, _^_, _≤_, _<_}
-use native.Mathlib.Nat.{zero-add, zero-mul, suc-mul, add-assoc, add-comm}
+use native.Mathlib.Nat.{zero-add, zero-mul, suc-mul, add-assoc, mul-le-mul-right}
 use native.Mathlib.Decide.{decLt}
 use native.Mathlib.Omega.{arith}
 use mathlib.Core.Bool.{Bool, true, false, _&&_}
@@ -58,14 +58,25 @@ module _ (width : ℕ) (last code t₀ out₀ : List ℕ) where
   reads-start r e t l a g v w n s =
       let width-is : r .coder .interval .width ≡ 4096 = ap (λ (k : Registers). k .interval .width) e in
       record {
-        band = []; isBand = record { size = sym (zero-mul (rowBytes width)); padded = refl; octets = λ i. omega arith };
+        band = [];
+        isBand = record { size = sym (zero-mul (rowBytes width)); padded = refl; octets = λ i. omega arith };
         front = ap (λ (k : ℕ). drop k out₀) (sym (zero-mul (rowBytes width)));
-        settled = []; stage = ap₂ (λ (k : List ℕ) (x : Registers). stageOf width (record { table = k; above = pelsTo last width; this = [] }) x) (sym t) (sym e);
+        settled = [];
+        stage = ap₂ (λ (k : List ℕ) (x : Registers). stageOf width (record { table = k; above = pelsTo last width; this = [] }) x) (sym t) (sym e);
         read = λ n.
-          ap (λ (k : ℕ). reads width k (pageAt width t₀ last) (opened code)) (ap (λ (k : ℕ). k + n) (zero-mul width) ∙ zero-add n)
-          ∙ ap₂ (λ (k : List ℕ) (x : Sight). reads width n (record { table = k; above = pelsTo last width; this = [] }) x) (sym t) (sym v ∙ ap (λ (k : ℕ). sightOf (r .view) k code) (sym width-is));
-        matched = g; place = a; few = omega arith; lawful = subst LawfulTable (sym t) l; ready = subst Ready (sym e) ready-start;
-        count = rw (ap (λ (k : Registers). k .interval .count) e) (omega arith); within = w; near = n; small = s; lastIs = λ h. absurd (none h) }
+            ap (λ (k : ℕ). reads width k (pageAt width t₀ last) (opened code)) (ap (λ (k : ℕ). k + n) (zero-mul width) ∙ zero-add n)
+            ∙ ap₂ (λ (k : List ℕ) (x : Sight). reads width n (record { table = k; above = pelsTo last width; this = [] }) x) (sym t) (sym v ∙ ap (λ (k : ℕ). sightOf (r .view) k code) (sym width-is));
+        matched = g;
+        place = a;
+        few = omega arith;
+        lawful = subst LawfulTable (sym t) l;
+        ready = subst Ready (sym e) ready-start;
+        count = rw (ap (λ (k : Registers). k .interval .count) e) (omega arith);
+        within = w;
+        near = n;
+        small = s;
+        lastIs = λ h. absurd (none h);
+      }
     where
       none : 1 ≤ 0 → ⊥
       none h = omega arith
@@ -125,19 +136,33 @@ module _ (width : ℕ) (last code t₀ out₀ : List ℕ) where
         record {
           size = length-append (b .band) row ∙ ap₂ (λ (j k : ℕ). j + k) (b .isBand .size) row-size ∙ sym (suc-mul y bytes);
           padded = padded-grow width y (b .band) row (b .isBand .size) row-size ∙ ap₂ (λ (j k : Bool). j && k) (b .isBand .padded) (front-padded width (l .row) (f .packed) some narrow);
-          octets = octets-next }
+          octets = octets-next;
+        }
 
     pub reads-again : (out′ : List ℕ) → out′ ≡ paste out (y * bytes) (l .row) bytes → BandRead (l .row) (l .reading) out′ (suc y)
     reads-again out′ o =
         record {
-          band = b .band ++ row; isBand = is-band;
+          band = b .band ++ row;
+          isBand = is-band;
           front =
-            o ∙ ap (λ (k : List ℕ). paste k (y * bytes) (l .row) bytes) (b .front)
-            ∙ ap₂ (λ (j k : List ℕ). j ++ row ++ k) (take-at (b .band) (drop (y * bytes) out₀) (y * bytes) (b .isBand .size))
-                (ap (λ (k : ℕ). drop (k + bytes) (b .band ++ drop (y * bytes) out₀)) (sym (b .isBand .size)) ∙ drop-append-add (b .band) (drop (y * bytes) out₀) bytes ∙ drop-drop bytes (y * bytes) out₀ ∙ ap (λ (k : ℕ). drop k out₀) (sym (suc-mul y bytes)));
-          settled = b .settled ++ f .settled; stage = next-stage; read = next-read;
+              o ∙ ap (λ (k : List ℕ). paste k (y * bytes) (l .row) bytes) (b .front)
+              ∙ ap₂ (λ (j k : List ℕ). j ++ row ++ k) (take-at (b .band) (drop (y * bytes) out₀) (y * bytes) (b .isBand .size))
+              (ap (λ (k : ℕ). drop (k + bytes) (b .band ++ drop (y * bytes) out₀)) (sym (b .isBand .size)) ∙ drop-append-add (b .band) (drop (y * bytes) out₀) bytes ∙ drop-drop bytes (y * bytes) out₀ ∙ ap (λ (k : ℕ). drop k out₀) (sym (suc-mul y bytes)));
+          settled = b .settled ++ f .settled;
+          stage = next-stage;
+          read = next-read;
           matched = f .matched ∙ ap₂ (λ (j : Bool) (k : ℕ). j && matches code k (f .settled)) (b .matched) (b .place ∙ sym (zero-add (length (b .settled)))) ∙ sym (matches-append code 0 (b .settled) (f .settled));
           place = f .place ∙ ap (λ (k : ℕ). k + length (f .settled)) (b .place) ∙ sym (length-append (b .settled) (f .settled));
-          few = omega (arith, f .few, b .few, length-append (b .settled) (f .settled)); lawful = f .lawful; ready = f .ready; count = omega (arith, f .count, b .count);
-          within = f .within; near = f .near; small = f .small;
-          lastIs = λ h. row-is width (l .row) (f .packed) some narrow ∙ ap (λ (k : List ℕ). k ++ replicate (256 - bytes) 0) (sym (last-grow width y (b .band) row (b .isBand .size) row-size 0)) }
+          few = omega (arith, f .few, b .few, length-append (b .settled) (f .settled));
+          lawful = f .lawful;
+          ready = f .ready;
+          count = omega (arith, f .count, b .count);
+          within = f .within;
+          near = f .near;
+          small = f .small;
+          lastIs = λ h. row-is width (l .row) (f .packed) some narrow ∙ ap (λ (k : List ℕ). k ++ replicate (256 - bytes) 0) (sym (last-grow width y (b .band) row (b .isBand .size) row-size 0));
+        }
+
+-- there is room for the next row
+pub next-room : (y rows bytes len : ℕ) → y < rows → rows * bytes ≤ len → y * bytes + bytes ≤ len
+next-room y rows bytes len h k = omega (arith, suc-mul y bytes, mul-le-mul-right bytes h)

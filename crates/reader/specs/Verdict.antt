@@ -99,7 +99,7 @@ module _ (width : ℕ) where
   unfolding written
   same-pels rows table last a b e =
       no-two-bands (qPage width) qWriter qReader Sized qCoder sized bit (pageAt width table last) (bandTo width a rows) (bandTo width b rows) (band-pels width a rows) (band-pels width b rows)
-        (band-size width a rows ∙ sym (band-size width b rows)) e
+      (band-size width a rows ∙ sym (band-size width b rows)) e
 
   -- and a band's code, S and table are those of its pels
   pub code-of-pels : (rows : ℕ) (table last a b : List ℕ) → bandTo width a rows ≡ bandTo width b rows → written width rows table last a .code ≡ written width rows table last b .code

@@ -3,11 +3,12 @@ ghost use mathlib.Core.Path.{_≡_};
 ghost use mathlib.Core.Bool.{Bool, _&&_};
 ghost use mathlib.Core.List.{[], _∷_};
 ghost use Prim.Native.Nat.{ℕ, _+_, _-_, _*_, _%_, _≤_, _<_, _^_};
+ghost use lib.Dec.{eqb};
 ghost use lib.ListN.{length, take, drop, getD};
 ghost use Rattle.estimate.specs.Estimate.{rowOf, LawfulEntry, LawfulTable};
 ghost use Rattle.octets.specs.Octets.{bits};
 ghost use Rattle.coder.specs.Reading.{pelOf};
-ghost use Rattle.template.specs.Pels.{pelsTo};
+ghost use Rattle.template.specs.Pels.{rowBytes, pelsTo};
 ghost use Rattle.octets.specs.Fit.{Ready};
 ghost use Rattle.octets.specs.Lift.{lift};
 ghost use Rattle.exact.specs.Reader.{opened, decide, seek, taken};
@@ -15,6 +16,8 @@ ghost use Rattle.exact.specs.Reader as law;
 ghost use Rattle.reader.specs.Views.{sightOf, seeks, ReadPel};
 ghost use Rattle.reader.specs.ReadRow.{matchAt, matches};
 ghost use Rattle.reader.specs.Lines.{LineRead};
+ghost use Rattle.reader.specs.Reads.{BandRead};
+ghost use Rattle.reader.specs.Found.{BandFound};
 use band::Pel;
 use estimate::Table;
 use octets::Coder;
@@ -278,4 +281,115 @@ pub struct Read {
 pub struct Rows {
     pub reading: Reading,
     pub last: [u8; 256],
+}
+
+// The rows of a band into the front of the buffer, the first under the page's last row.
+pub fn read_rows(
+    table: Table,
+    last: [u8; 256],
+    width: usize,
+    rows: usize,
+    code: &[u8],
+    out: &mut [u8],
+) -> Rows
+    requires { ⌜ (1 ≤ width) × (width ≤ 2048) × (rows ≤ 64) × (rows * rowBytes width ≤ length (now out)) × LawfulTable (table .entries) ⌝ }
+    ensures { λ r. ⌜ BandRead width last (now (code .entry)) (table .entries) (now (out .entry)) (r .last) (r .reading) (now (out .exit)) rows ⌝ }
+{
+    let bytes = template::row_bytes(width);
+    let coder = Coder::start();
+    let view = View::start(code);
+    let mut above = last;
+    let mut reading = Reading {
+        coder: coder,
+        table: table,
+        at: 0,
+        good: true,
+        view: view,
+    };
+    let mut y: usize = 0;
+    while y < rows {
+        let line = read_row(code, &above, width, reading);
+        above = line.row;
+        reading = line.reading;
+        store::put_row(out, y * bytes, above, bytes);
+        y += 1;
+    }
+    Rows {
+        reading: reading,
+        last: above,
+    }
+}
+
+// Whether the first n of the last bytes are the code's too.
+pub fn match_last(code: &[u8], at: usize, bytes: [u8; 5], n: usize, good: bool) -> bool
+    requires { ⌜ (at < 800000000) × (n ≤ 5) ⌝ }
+    ensures { λ r. ⌜ r ≡ (good && matches (now (code .entry)) at (take n bytes)) ⌝ }
+{
+    let mut same = good;
+    let mut i: usize = 0;
+    while i < n {
+        same = match_two(code, at + i, 1, bytes[i], 0, same);
+        i += 1;
+    }
+    same
+}
+
+// The bytes agreed, and there are as many as the code has.
+pub fn as_long(same: bool, n: usize, len: usize) -> bool
+    ensures { λ r. ⌜ r ≡ (same && eqb n len) ⌝ }
+{
+    if same { n == len } else { false }
+}
+
+// A band back into a lent buffer: its rows in front and the rest kept; all zero where there is no room, or where no band was written so.
+pub fn read_band(
+    table: Table,
+    last: [u8; 256],
+    width: usize,
+    rows: usize,
+    code: &[u8],
+    out: &mut [u8],
+) -> Read
+    requires { ⌜ (1 ≤ width) × (width ≤ 2048) × (1 ≤ rows) × (rows ≤ 64) × LawfulTable (table .entries) ⌝ }
+    ensures { λ r. ⌜ BandFound width rows table last (now (code .entry)) (now (out .entry)) r (now (out .exit)) ⌝ }
+{
+    let length = rows * template::row_bytes(width);
+    if out.len() < length {
+        store::clear(out);
+        return Read {
+            room: false,
+            good: false,
+            length: 0,
+            shifts: 0,
+            table: table,
+            last: last,
+        };
+    }
+    let done = read_rows(table, last, width, rows, code, out);
+    let reading = done.reading;
+    let coder = reading.coder;
+    let end = coder.finish();
+    let bytes = end.bytes;
+    let same = match_last(code, reading.at, bytes, end.count, reading.good);
+    if as_long(same, reading.at + end.count - 1, code.len()) {
+        let after = reading.table;
+        let row = done.last;
+        return Read {
+            room: true,
+            good: true,
+            length: length,
+            shifts: coder.interval.count,
+            table: after,
+            last: row,
+        };
+    }
+    store::clear(out);
+    Read {
+        room: true,
+        good: false,
+        length: 0,
+        shifts: 0,
+        table: table,
+        last: last,
+    }
 }
