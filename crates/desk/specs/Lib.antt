@@ -1,4 +1,6 @@
 pub mod Places
+pub mod Finding
 pub mod Lawful
+pub mod OpenPages
 pub mod Refusals
 pub mod Calls

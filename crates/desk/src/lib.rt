@@ -1,4 +1,8 @@
-// The desk by value: its types.
+// The desk by value: its types, how pages and places are found, and how they are put.
+ghost use mathlib.Core.Path.{_≡_};
+ghost use Prim.Native.Nat.{_<_};
+ghost use Rattle.desk.specs.Places.{isPageOf, isPlaceOf, isTableOf, isFreePage, isFreePlace, findBy, isFound, unusedPage, freePlace, emptyDesk, withPage, withPlace};
+ghost use Rattle.desk.specs.Finding.{foundBelow};
 use estimate::Table;
 
 pub struct Key {
@@ -65,4 +69,195 @@ pub struct Outcome {
 pub enum Found {
     At(usize),
     Nothing,
+}
+
+// An open page of the key: both numbers, the school and the class.
+pub fn is_page_of(page: Page, key: Key) -> bool
+    ensures { λ r. ⌜ r ≡ isPageOf key page ⌝ }
+{
+    if page.state == 0 {
+        return false;
+    }
+    if page.school == key.school {
+        return page.class == key.class;
+    }
+    false
+}
+
+// A used place of the key.
+pub fn is_place_of(p: Place, key: Key) -> bool
+    ensures { λ r. ⌜ r ≡ isPlaceOf key p ⌝ }
+{
+    if p.state == 0 {
+        return false;
+    }
+    if p.school == key.school {
+        return p.class == key.class;
+    }
+    false
+}
+
+// A learned place of the key.
+pub fn is_table_of(p: Place, key: Key) -> bool
+    ensures { λ r. ⌜ r ≡ isTableOf key p ⌝ }
+{
+    if p.state != 2 {
+        return false;
+    }
+    if p.school == key.school {
+        return p.class == key.class;
+    }
+    false
+}
+
+// The open page of the key.
+pub fn find_page(pages: [Page; 4], key: Key) -> Found
+    ensures { λ r. ⌜ (r ≡ findBy (isPageOf key) pages 0) × foundBelow 4 r ⌝ }
+{
+    let mut i: usize = 0;
+    while i < 4 {
+        let p = pages[i];
+        if is_page_of(p, key) {
+            return Found::At(i);
+        }
+        i += 1;
+    }
+    Found::Nothing
+}
+
+// The place of the key, reserved or learned.
+pub fn find_place(places: [Place; 8], key: Key) -> Found
+    ensures { λ r. ⌜ (r ≡ findBy (isPlaceOf key) places 0) × foundBelow 8 r ⌝ }
+{
+    let mut i: usize = 0;
+    while i < 8 {
+        let p = places[i];
+        if is_place_of(p, key) {
+            return Found::At(i);
+        }
+        i += 1;
+    }
+    Found::Nothing
+}
+
+// The learned place of the key.
+pub fn find_table(places: [Place; 8], key: Key) -> Found
+    ensures { λ r. ⌜ (r ≡ findBy (isTableOf key) places 0) × foundBelow 8 r ⌝ }
+{
+    let mut i: usize = 0;
+    while i < 8 {
+        let p = places[i];
+        if is_table_of(p, key) {
+            return Found::At(i);
+        }
+        i += 1;
+    }
+    Found::Nothing
+}
+
+// The lowest unused page.
+pub fn free_page(pages: [Page; 4]) -> Found
+    ensures { λ r. ⌜ (r ≡ findBy isFreePage pages 0) × foundBelow 4 r ⌝ }
+{
+    let mut i: usize = 0;
+    while i < 4 {
+        let p = pages[i];
+        if p.state == 0 {
+            return Found::At(i);
+        }
+        i += 1;
+    }
+    Found::Nothing
+}
+
+// The lowest free place.
+pub fn free_place(places: [Place; 8]) -> Found
+    ensures { λ r. ⌜ (r ≡ findBy isFreePlace places 0) × foundBelow 8 r ⌝ }
+{
+    let mut i: usize = 0;
+    while i < 8 {
+        let p = places[i];
+        if p.state == 0 {
+            return Found::At(i);
+        }
+        i += 1;
+    }
+    Found::Nothing
+}
+
+// Whether there was one.
+pub fn is_found(found: Found) -> bool
+    ensures { λ r. ⌜ r ≡ isFound found ⌝ }
+{
+    match found {
+        Found::At(_) => true,
+        Found::Nothing => false,
+    }
+}
+
+// What unused room holds.
+pub fn unused_page() -> Page
+    ensures { λ r. ⌜ r ≡ unusedPage ⌝ }
+{
+    Page {
+        state: 0,
+        school: 0,
+        class: 0,
+        width: 0,
+        table: Table {
+            entries: [0u8; 128],
+        },
+        last: [0u8; 256],
+    }
+}
+
+pub fn vacant_place() -> Place
+    ensures { λ r. ⌜ r ≡ freePlace ⌝ }
+{
+    Place {
+        state: 0,
+        school: 0,
+        class: 0,
+        table: Table {
+            entries: [0u8; 128],
+        },
+    }
+}
+
+// No page open, no class known.
+pub fn empty_desk() -> Desk
+    ensures { λ r. ⌜ r ≡ emptyDesk ⌝ }
+{
+    let page = unused_page();
+    let place = vacant_place();
+    Desk {
+        pages: [page; 4],
+        places: [place; 8],
+    }
+}
+
+// The desk with a page put where one was found.
+pub fn with_page(d: Desk, found: Found, p: Page) -> Desk
+    requires { ⌜ foundBelow 4 found ⌝ }
+    ensures { λ r. ⌜ r ≡ withPage d found p ⌝ }
+{
+    let Found::At(i) = found else {
+        return d;
+    };
+    let mut next = d;
+    next.pages[i] = p;
+    next
+}
+
+// The desk with a place put where one was found.
+pub fn with_place(d: Desk, found: Found, p: Place) -> Desk
+    requires { ⌜ foundBelow 8 found ⌝ }
+    ensures { λ r. ⌜ r ≡ withPlace d found p ⌝ }
+{
+    let Found::At(i) = found else {
+        return d;
+    };
+    let mut next = d;
+    next.places[i] = p;
+    next
 }

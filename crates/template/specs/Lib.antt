@@ -1,3 +1,4 @@
 pub mod Pels
 pub mod Window
 pub mod Packing
+pub mod Padding

@@ -3,7 +3,7 @@ ghost use mathlib.Core.Path.{_≡_};
 ghost use Prim.Native.Nat.{ℕ, _+_, _*_, _%_, _≤_, _<_};
 ghost use mathlib.Core.List.{[]};
 ghost use lib.ListN.{length, getD};
-ghost use Rattle.template.specs.Pels.{rowBytes, pelAt, pelsTo, context};
+ghost use Rattle.template.specs.Pels.{rowBytes, pelAt, pelsTo, rowPadded, bandPadded, context};
 ghost use Rattle.template.specs.Window.{Slid};
 
 // The bytes of a row.
@@ -32,6 +32,34 @@ pub fn edge_pel(row: &[u8], width: usize, x: usize) -> usize
         return pel_at(row, x) as usize;
     }
     0
+}
+
+// The padding bits of a row are zero bits.
+pub fn row_padded(row: &[u8], width: usize) -> bool
+    requires { ⌜ (1 ≤ width) × (width ≤ 65535) × (length (now row) ≡ rowBytes width) ⌝ }
+    ensures { λ r. ⌜ r ≡ rowPadded width (now (row .entry)) ⌝ }
+{
+    let bytes = row_bytes(width);
+    let spare = 8 * bytes - width;
+    let end = row[bytes - 1] as usize;
+    end % (1 << spare) == 0
+}
+
+// And those of every row of a band.
+pub fn band_padded(pels: &[u8], width: usize, rows: usize) -> bool
+    requires { ⌜ (1 ≤ width) × (width ≤ 2048) × (rows ≤ 64) × (length (now pels) ≡ rows * rowBytes width) ⌝ }
+    ensures { λ r. ⌜ r ≡ bandPadded width (now (pels .entry)) rows ⌝ }
+{
+    let bytes = row_bytes(width);
+    let mut y: usize = 0;
+    while y < rows {
+        let from = y * bytes;
+        if !row_padded(&pels[from..from + bytes], width) {
+            return false;
+        }
+        y += 1;
+    }
+    true
 }
 
 // What a pel's context is made of: the five pels of the row above, the two of this row.

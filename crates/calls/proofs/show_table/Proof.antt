@@ -1,0 +1,60 @@
+-- The bytes stored so far stand in front, and the rest is kept. Assumes nothing.
+use mathlib.Core.Path.{_≡_, refl, _∙_}
+use Prim.Native.Nat.{_-_, _≤_}
+use native.Mathlib.Omega.{arith}
+use borrow.Author.Needs.{needs}
+use lib.ListN.{length, length-set}
+use Rattle.calls.specs.Showing.{shown, shown-none, shown-next, shown-all}
+use Rattle.calls.proofs.show_table.Statement.{statement}
+use Rattle.calls.proofs.show_table.Tie as tie
+
+abbrev Inv-loop : tie.InvT-loop
+Inv-loop out₀ table i₀ out i = (i ≤ 128) × (length (table .entries) ≡ 128) × (out ≡ shown out₀ (table .entries) i) × (length out ≡ length out₀)
+
+abbrev μ-loop : tie.MeasureT-loop
+μ-loop out₀ table i₀ out i = 128 - i
+
+loop-holds : tie.Need-loop-holds Inv-loop μ-loop
+loop-holds c = (omega arith, search needs, shown-none _ _, refl)
+
+element-copy-out-out : tie.Need-element-copy-out-out Inv-loop μ-loop
+element-copy-out-out c = omega arith
+
+slice-write-out : tie.Need-slice-write-out Inv-loop μ-loop
+slice-write-out c = omega arith
+
+add-i : tie.Need-add-i Inv-loop μ-loop
+add-i c = omega arith
+
+loop-less : tie.Need-loop-less Inv-loop μ-loop
+loop-less c = omega arith
+
+loop-again : tie.Need-loop-again Inv-loop μ-loop
+loop-again c =
+    let l = c .before .before .loop in
+    let a = c .before .before .before .args in
+    (omega arith, l .inv .1, shown-next (a .out .now) (a .t1 .entries) _ (l .i) (omega arith) (l .inv .2), simp length-set (l .inv .3))
+
+same-length : tie.Need-same-length Inv-loop μ-loop
+same-length c = c .before .loop .inv .3
+
+returns : tie.Need-returns Inv-loop μ-loop
+returns c =
+    let l = c .before .loop in
+    let a = c .before .before .args in
+    l .inv .2 ∙ shown-all (a .out .now) (a .t1 .entries) (l .i) (omega arith) (omega arith)
+
+pub show-table-spec : {M : Type 1} → statement M
+show-table-spec =
+    tie.close
+    (tie.spec
+    Inv-loop
+    μ-loop
+    loop-holds
+    element-copy-out-out
+    slice-write-out
+    add-i
+    loop-less
+    loop-again
+    same-length
+    returns)

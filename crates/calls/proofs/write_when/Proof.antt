@@ -1,0 +1,298 @@
+-- Write answers, leaves the desk and fills the lent buffer as document 01 says. Assumes nothing.
+use mathlib.Core.Path.{_≡_, sym, ap, _∙_}
+use Prim.Native.Nat.{_<_}
+use native.Mathlib.Omega.{arith}
+use Prim.Native.Nat.{_≤_, _*_}
+use native.Mathlib.Nat.{mul-le-mul-right}
+use mathlib.Core.Bool.{true}
+use lib.ListN.{getD, length}
+use borrow.Author.Tests.{not-true, not-false}
+use Rattle.template.specs.Pels.{rowBytes, bandPadded}
+use Rattle.band.specs.Band.{maxRows}
+use Rattle.desk.specs.Places.{noPage}
+use Rattle.desk.specs.Lawful.{within}
+use Rattle.desk.specs.OpenPages.{OpenPage, within-both}
+use Rattle.desk.specs.Calls.{bandOf, writeTests}
+use Rattle.calls.specs.Refusing.{Begun}
+use Rattle.calls.specs.Bands.{write-early, write-early-keeps, write-begun, write-page, write-size, write-none, write-other-way, write-pels, write-padding, write-room, write-end, write-refused, write-keeps, room-is, write-clears, write-done, write-lends}
+use borrow.Author.Needs.{needs}
+use Rattle.calls.proofs.write_when.Statement.{statement}
+use Rattle.calls.proofs.write_when.Tie as tie
+
+-- past the first two tests
+on : (c : tie.Else1) → let a = c .before .before .before .before .before .args in Begun (writeTests (a .d) (a .ask) (a .pels .now) (a .out .now))
+on c =
+    let a = c .before .before .before .before .before .args in
+    let r = c .before .early-refusal in
+    write-begun (a .d) (a .ask) (a .pels .now) (a .out .now) (a .good) (r .result) (c .before .before .before .before .before .pre) (r .ensures) (c .if1 .left)
+
+ranged : (c : tie.Else2) → within 1 (c .before .before .before .before .before .before .before .args .ask .rows) maxRows ≡ true
+ranged c = sym (c .before .in-range .ensures) ∙ not-false (c .before .in-range .result) (c .if2 .left)
+
+ranged-by : (c : tie.Else2) → let a = c .before .before .before .before .before .before .before .args in (1 ≤ a .ask .rows) × (a .ask .rows ≤ maxRows)
+ranged-by c = within-both 1 (c .before .before .before .before .before .before .before .args .ask .rows) maxRows (ranged c)
+
+-- what was found is within
+slot-within : (c : tie.After-known-told) → c .before .i .given .0 .0 < 4
+slot-within c = rw (c .before .i .given .1) at (c .before .before .before .find-page .ensures .1)
+
+-- the open page of a lawful desk
+opened : (c : tie.After-known-told) → let a = c .before .before .before .before .before .before .before .before .before .before .before .before .args in
+    OpenPage (getD (a .d .pages) (c .before .i .given .0 .0) noPage)
+opened c =
+    let a = c .before .before .before .before .before .before .before .before .before .before .before .before .args in
+    write-page (a .d) (a .ask) (a .pels .now) (a .out .now) (on (c .before .before .before .before .before .before .before)) (c .before .i .given .0 .0)
+    (sym (c .before .before .before .find-page .ensures .0) ∙ c .before .i .given .1)
+
+sizes : (c : tie.After-row-bytes) →
+    let a = c .before .before .before .before .before .before .before .before .before .before .before .before .before .before .before .before .args in
+    a .ask .rows * c .row-bytes .result ≤ 64 * 256
+sizes c =
+    let p = opened (c .before .before .before .before) in
+    let s : c .row-bytes .result ≤ 256 = omega (arith, c .row-bytes .ensures, p .small) in
+    omega (arith, mul-le-mul-right (c .row-bytes .result) (ranged-by (c .before .before .before .before .before .before .before .before .before) .1))
+
+-- past the test of the pels' length, and of their padding
+exact : (c : tie.Else4) →
+    let a = c .before .before .before .before .before .before .before .before .before .before .before .before .before .before .before .before .before .args in
+    let i = c .before .before .before .before .before .before .i .given .0 .0 in
+    length (a .pels .now) ≡ a .ask .rows * rowBytes (getD (a .d .pages) i noPage .width)
+exact c = let a = c .before .before .before .before .before .before .before .before .before .before .before .before .before .before .before .before .before .args in
+    c .if4 .left ∙ ap (λ m. a .ask .rows * m) (c .before .row-bytes .ensures)
+
+padded : (c : tie.Else5) →
+    let a = c .before .before .before .before .before .before .before .before .before .before .before .before .before .before .before .before .before .before .before .args in let i = c .before .before .before .before .before .before .before .before .i .given .0 .0 in
+    bandPadded (getD (a .d .pages) i noPage .width) (a .pels .now) (a .ask .rows) ≡ true
+padded c = sym (c .before .band-padded .ensures) ∙ not-false (c .before .band-padded .result) (c .if5 .left)
+
+early-refusal-requires : tie.Need-early-refusal-requires
+early-refusal-requires c κs = search needs
+
+refused-requires : tie.Need-refused-requires
+refused-requires c κs = search needs
+
+returns : tie.Need-returns
+returns c =
+    let a = c .before .before .before .before .before .before .args in
+    let r = c .before .before .early-refusal in
+    let e = write-early (a .d) (a .ask) (a .pels .now) (a .out .now) (a .good) (r .result) (c .before .before .before .before .before .before .pre) (r .ensures)
+    (c .before .if1 .taken) in (
+      c .refused .ensures ∙ write-refused (a .d) (a .ask) (a .pels .now) (a .out .now) (r .result) e (c .before .if1 .taken),
+      write-keeps (a .d) (a .ask) (a .pels .now)
+          (a .out .now) (r .result) e (c .before .if1 .taken) (write-early-keeps (a .d) (a .ask) (a .pels .now) (a .out .now) (a .good) (r .result)
+          (c .before .before .before .before .before .before .pre) (r .ensures)),
+    )
+
+in-range-requires : tie.Need-in-range-requires
+in-range-requires c κs = search needs
+
+refused-requires-2 : tie.Need-refused-requires-2
+refused-requires-2 c κs = search needs
+
+returns-2 : tie.Need-returns-2
+returns-2 c =
+    let a = c .before .before .before .before .before .before .before .before .args in
+    let b = on (c .before .before .before) in
+    let e = write-size (a .d) (a .ask) (a .pels .now) (a .out .now) b
+    (sym (c .before .before .in-range .ensures) ∙ not-true (c .before .before .in-range .result) (c .before .if2 .taken)) in (
+      c .refused2 .ensures ∙ write-refused (a .d) (a .ask) (a .pels .now) (a .out .now) 6 e (λ z. omega arith),
+      write-keeps (a .d) (a .ask) (a .pels .now)
+          (a .out .now) 6 e (λ z. omega arith) (λ z. omega arith, λ z. omega arith),
+    )
+
+find-page-requires : tie.Need-find-page-requires
+find-page-requires c κs = search needs
+
+enum-known-i : tie.Need-enum-known-i
+enum-known-i c = search needs
+
+enum-told : tie.Need-enum-told
+enum-told c = search needs
+
+refused-requires-3 : tie.Need-refused-requires-3
+refused-requires-3 c κs = search needs
+
+returns-3 : tie.Need-returns-3
+returns-3 c =
+    let a = c .before .before .before .before .before .before .before .before .before .before .before .before .args in
+    let b = on (c .before .before .before .before .before .before .before) in
+    let g = ranged (c .before .before .before .before .before) in
+    let e = write-none (a .d) (a .ask) (a .pels .now) (a .out .now) b g (sym (c .before .before .before .find-page .ensures .0) ∙ c .before .enum-told .given .1) in (
+      c .refused3 .ensures ∙ write-refused (a .d) (a .ask) (a .pels .now) (a .out .now) 2 e (λ z. omega arith),
+      write-keeps (a .d) (a .ask) (a .pels .now)
+          (a .out .now) 2 e (λ z. omega arith) (λ z. omega arith, λ z. omega arith),
+    )
+
+mul-page : tie.Need-mul-page
+mul-page c = let h = slot-within c in omega arith
+
+array-copy-out-page : tie.Need-array-copy-out-page
+array-copy-out-page c = slot-within c
+
+refused-requires-4 : tie.Need-refused-requires-4
+refused-requires-4 c κs = search needs
+
+returns-4 : tie.Need-returns-4
+returns-4 c =
+    let a = c .before .before .before .before .before .before .before .before .before .before .before .before .before .before .before .before .args in
+    let f = sym (c .before .before .before .before .before .before .before .find-page .ensures .0) ∙ c .before .before .before .before .before .i .given .1 in
+    let i = c .before .before .before .before .before .i .given .0 .0 in
+    let b = on (c .before .before .before .before .before .before .before .before .before .before .before) in
+    let g = ranged (c .before .before .before .before .before .before .before .before .before) in
+    let e = write-other-way (a .d) (a .ask) (a .pels .now) (a .out .now) b g i f (c .before .if3 .taken) in (
+      c .refused4 .ensures ∙ write-refused (a .d) (a .ask) (a .pels .now) (a .out .now) 7 e (λ z. omega arith),
+      write-keeps (a .d) (a .ask) (a .pels .now)
+          (a .out .now) 7 e (λ z. omega arith) (λ z. omega arith, λ z. omega arith),
+    )
+
+row-bytes-requires : tie.Need-row-bytes-requires
+row-bytes-requires c κs = let p = opened (c .before .before .before) in omega (arith, p .small)
+
+mul-if4 : tie.Need-mul-if4
+mul-if4 c = let s = sizes c in omega arith
+
+refused-requires-5 : tie.Need-refused-requires-5
+refused-requires-5 c κs = search needs
+
+returns-5 : tie.Need-returns-5
+returns-5 c =
+    let a = c .before .before .before .before .before .before .before .before .before .before .before .before .before .before .before .before .before .before .args in
+    let f = sym (c .before .before .before .before .before .before .before .before .before .find-page .ensures .0)
+    ∙ c .before .before .before .before .before .before .before .i .given .1 in
+    let i = c .before .before .before .before .before .before .before .i .given .0 .0 in
+    let b = on (c .before .before .before .before .before .before .before .before .before .before .before .before .before) in
+    let g = ranged (c .before .before .before .before .before .before .before .before .before .before .before) in
+    let e = write-pels (a .d) (a .ask) (a .pels .now) (a .out .now) b g i f (c .before .before .before .if3 .left)
+    (λ l. c .before .if4 .taken (l ∙ ap (λ m. a .ask .rows * m) (sym (c .before .before .row-bytes .ensures)))) in (
+      c .refused5 .ensures ∙ write-refused (a .d) (a .ask) (a .pels .now) (a .out .now) 6 e (λ z. omega arith),
+      write-keeps (a .d) (a .ask) (a .pels .now)
+          (a .out .now) 6 e (λ z. omega arith) (λ z. omega arith, λ z. omega arith),
+    )
+
+band-padded-requires : tie.Need-band-padded-requires
+band-padded-requires c κs = let p = opened (c .before .before .before .before .before) in let w = ranged-by
+    (c .before .before .before .before .before .before .before .before .before .before) in (p .some, p .small, w .1, exact c)
+
+refused-requires-6 : tie.Need-refused-requires-6
+refused-requires-6 c κs = search needs
+
+returns-6 : tie.Need-returns-6
+returns-6 c =
+    let a = c .before .before .before .before .before .before .before .before .before .before .before .before .before .before .before .before .before .before .before .before .args in
+    let f = sym (c .before .before .before .before .before .before .before .before .before .before .before .find-page .ensures .0)
+    ∙ c .before .before .before .before .before .before .before .before .before .i .given .1 in
+    let i = c .before .before .before .before .before .before .before .before .before .i .given .0 .0 in
+    let b = on (c .before .before .before .before .before .before .before .before .before .before .before .before .before .before .before) in
+    let g = ranged (c .before .before .before .before .before .before .before .before .before .before .before .before .before) in
+    let l = exact (c .before .before .before) in
+    let e = write-padding (a .d) (a .ask) (a .pels .now) (a .out .now) b g i f (c .before .before .before .before .before .if3 .left) l
+    (sym (c .before .before .band-padded .ensures) ∙ not-true (c .before .before .band-padded .result) (c .before .if5 .taken)) in (
+      c .refused6 .ensures ∙ write-refused (a .d) (a .ask) (a .pels .now) (a .out .now) 8 e (λ z. omega arith),
+      write-keeps (a .d) (a .ask) (a .pels .now)
+          (a .out .now) 8 e (λ z. omega arith) (λ z. omega arith, λ z. omega arith),
+    )
+
+write-band-requires : tie.Need-write-band-requires
+write-band-requires c κs = let p = opened (c .before .before .before .before .before .before .before .before .before .before) in let w = ranged-by
+    (c .before .before .before .before .before .before .before .before .before .before .before .before .before .before .before) in
+    (p .some, p .small, w .0, w .1, exact (c .before .before .before .before .before), p .table)
+
+refused-requires-7 : tie.Need-refused-requires-7
+refused-requires-7 c κs = search needs
+
+same-length : tie.Need-same-length
+same-length c = search needs
+
+returns-7 : tie.Need-returns-7
+unfolding bandOf
+returns-7 c =
+    let a = c .before .before .before .before .before .before .before .before .before .before .before .before .before .before .before .before .before .before .before .before .before .before .before .before .before .before .before .before .args in
+    let f = sym (c .before .before .before .before .before .before .before .before .before .before .before .before .before .before .before .before .before .before .before .find-page .ensures .0) ∙ c .before .before .before .before .before .before .before .before .before .before .before .before .before .before .before .before .before .i .given .1 in
+    let i = c .before .before .before .before .before .before .before .before .before .before .before .before .before .before .before .before .before .i .given .0 .0 in
+    let b = on (c .before .before .before .before .before .before .before .before .before .before .before .before .before .before .before .before .before .before .before .before .before .before .before) in
+    let g = ranged (c .before .before .before .before .before .before .before .before .before .before .before .before .before .before .before .before .before .before .before .before .before) in
+    let l = exact (c .before .before .before .before .before .before .before .before .before .before .before) in
+    let q = padded (c .before .before .before .before .before .before .before .before .before) in
+    let w = c .before .before .before .before .before .write-band in
+    let o = not-true (w .result .room) (c .before .if6 .taken) in
+    let e = write-room (a .d) (a .ask) (a .pels .now) (a .out .now) b g i f
+    (c .before .before .before .before .before .before .before .before .before .before .before .before .before .if3 .left) l q
+    (room-is (a .d) (a .ask) (a .pels .now) (a .out .now) i f (w .result) (w .ensures .0) _ o) in (
+      c .refused7 .ensures ∙ write-refused (a .d) (a .ask) (a .pels .now) (a .out .now) 9 e (λ z. omega arith),
+      w .ensures .1 ∙ write-clears (a .d) (a .ask)
+          (a .pels .now) (a .out .now) i f (w .result) (w .ensures .0) o e,
+    )
+
+served-page-requires : tie.Need-served-page-requires
+served-page-requires c κs = search needs
+
+mul-served : tie.Need-mul-served
+mul-served c = let h = slot-within (c .before .before .before .before .before .before .before .before .before .before .before .before .before .before .before .before) in
+    omega arith
+
+element-set-from-served : tie.Need-element-set-from-served
+element-set-from-served c = slot-within
+    (c .before .before .before .before .before .before .before .before .before .before .before .before .before .before .before .before)
+
+done-requires : tie.Need-done-requires
+done-requires c κs = search needs
+
+same-length-2 : tie.Need-same-length-2
+same-length-2 c = search needs
+
+returns-8 : tie.Need-returns-8
+unfolding bandOf
+returns-8 c =
+    let a = c .before .before .before .before .before .before .before .before .before .before .before .before .before .before .before .before .before .before .before .before .before .before .before .before .before .before .before .before .before .args in
+    let f = sym (c .before .before .before .before .before .before .before .before .before .before .before .before .before .before .before .before .before .before .before .before .find-page .ensures .0) ∙ c .before .before .before .before .before .before .before .before .before .before .before .before .before .before .before .before .before .before .i .given .1 in
+    let i = c .before .before .before .before .before .before .before .before .before .before .before .before .before .before .before .before .before .before .i .given .0 .0 in
+    let b = on (c .before .before .before .before .before .before .before .before .before .before .before .before .before .before .before .before .before .before .before .before .before .before .before .before) in
+    let g = ranged (c .before .before .before .before .before .before .before .before .before .before .before .before .before .before .before .before .before .before .before .before .before .before) in
+    let l = exact (c .before .before .before .before .before .before .before .before .before .before .before .before) in
+    let q = padded (c .before .before .before .before .before .before .before .before .before .before) in
+    let w = c .before .before .before .before .before .before .write-band in
+    let o = not-false (w .result .room) (c .before .before .if6 .left) in
+    let e = write-end (a .d) (a .ask) (a .pels .now) (a .out .now) b g i f
+    (c .before .before .before .before .before .before .before .before .before .before .before .before .before .before .if3 .left) l q
+    (room-is (a .d) (a .ask) (a .pels .now) (a .out .now) i f (w .result) (w .ensures .0) _ o) in (
+      c .done .ensures ∙ write-done (a .d) (a .ask) (a .pels .now) (a .out .now) i f (w .result) (w .ensures .0) (c .before .served-page .result) o e
+          (c .before .served-page .ensures),
+      w .ensures .1 ∙ write-lends (a .d) (a .ask) (a .pels .now) (a .out .now) i f (w .result) (w .ensures .0) o e,
+    )
+
+pub write-when-spec : {M : Type 1} → statement M
+write-when-spec =
+    tie.close
+    (tie.spec
+    early-refusal-requires
+    refused-requires
+    returns
+    in-range-requires
+    refused-requires-2
+    returns-2
+    find-page-requires
+    enum-known-i
+    enum-told
+    refused-requires-3
+    returns-3
+    mul-page
+    array-copy-out-page
+    refused-requires-4
+    returns-4
+    row-bytes-requires
+    mul-if4
+    refused-requires-5
+    returns-5
+    band-padded-requires
+    refused-requires-6
+    returns-6
+    write-band-requires
+    refused-requires-7
+    same-length
+    returns-7
+    served-page-requires
+    mul-served
+    element-set-from-served
+    done-requires
+    same-length-2
+    returns-8)

@@ -1,0 +1,6 @@
+pub mod Refusing
+pub mod Leaving
+pub mod Opening
+pub mod Tables
+pub mod Showing
+pub mod Bands

@@ -1,0 +1,343 @@
+// The calls by value, given whether the desk is lawful. Each tests its refusals in the order of their numbers' table.
+ghost use mathlib.Core.Path.{_≡_};
+ghost use mathlib.Core.Bool.{not};
+ghost use Prim.Native.Nat.{_*_, _≤_, _<_};
+ghost use lib.ListN.{length};
+ghost use Rattle.estimate.specs.declared.Table.{Table};
+ghost use Rattle.store.specs.Store.{inFront};
+ghost use Rattle.desk.specs.Lawful.{within, lawfulKey, lawful};
+ghost use Rattle.desk.specs.Calls.{done, refused, reservedPlace, learnedPlace, openSpec, closeSpec, abandonSpec, dropSpec, lookSpec, lookLent, writeSpec, writeLent};
+ghost use Rattle.calls.specs.Refusing.{early};
+ghost use Rattle.calls.specs.Bands.{pageAfter};
+ghost use Rattle.calls.specs.Opening.{pageFrom, openNew};
+use band::Wrote;
+use desk::Answer;
+use desk::Ask;
+use desk::Desk;
+use desk::Direction;
+use desk::Found;
+use desk::Key;
+use desk::Opening;
+use desk::Outcome;
+use desk::Page;
+use desk::Place;
+use estimate::Table;
+
+// A refusal: its number, and the desk as it was.
+pub fn refused(n: u64, d: Desk) -> Outcome
+    ensures { λ r. ⌜ r ≡ refused n d ⌝ }
+{
+    Outcome {
+        answer: Answer {
+            number: n,
+            length: 0,
+            shifts: 0,
+        },
+        desk: d,
+    }
+}
+
+// An accepted call: its length, S, and the desk after it.
+pub fn done(len: u64, shifts: u64, d: Desk) -> Outcome
+    ensures { λ r. ⌜ r ≡ done len shifts d ⌝ }
+{
+    Outcome {
+        answer: Answer {
+            number: 0,
+            length: len,
+            shifts: shifts,
+        },
+        desk: d,
+    }
+}
+
+// A number from 1 to a limit.
+pub fn in_range(n: u64, high: u64) -> bool
+    ensures { λ r. ⌜ r ≡ within 1 n high ⌝ }
+{
+    if 1 <= n {
+        return n <= high;
+    }
+    false
+}
+
+// A lawful key: each number 1 to 65,535.
+pub fn lawful_key(key: Key) -> bool
+    ensures { λ r. ⌜ r ≡ lawfulKey (key .school) (key .class) ⌝ }
+{
+    if in_range(key.school, 65535) {
+        return in_range(key.class, 65535);
+    }
+    false
+}
+
+// The refusals that every call tests first, 12 and 1; 0 where it goes on.
+pub fn early_refusal(good: bool, key: Key) -> u64
+    ensures { λ r. ⌜ r ≡ early (not good) (not (lawfulKey (key .school) (key .class))) ⌝ }
+{
+    if !good {
+        return 12;
+    }
+    if !lawful_key(key) {
+        return 1;
+    }
+    0
+}
+
+// A learned place of the key.
+pub fn learned_place(key: Key, table: Table) -> Place
+    ensures { λ r. ⌜ r ≡ learnedPlace key table ⌝ }
+{
+    Place {
+        state: 2,
+        school: key.school,
+        class: key.class,
+        table: table,
+    }
+}
+
+// A place that an open page reserves.
+pub fn reserved_place(key: Key) -> Place
+    ensures { λ r. ⌜ r ≡ reservedPlace key ⌝ }
+{
+    Place {
+        state: 1,
+        school: key.school,
+        class: key.class,
+        table: Table {
+            entries: [0u8; 128],
+        },
+    }
+}
+
+// An opened page with its working table; its last row is white.
+pub fn page_from(ask: Opening, table: Table) -> Page
+    ensures { λ r. ⌜ r ≡ pageFrom ask table ⌝ }
+{
+    let way = ask.direction;
+    let state = match way {
+        Direction::Write => 1,
+        Direction::Read => 2,
+    };
+    Page {
+        state: state,
+        school: ask.key.school,
+        class: ask.key.class,
+        width: ask.width,
+        table: table,
+        last: [0u8; 256],
+    }
+}
+
+// Close: the working table becomes the class's learned table, and the page is gone.
+pub fn close_when(d: Desk, key: Key, good: bool) -> Outcome
+    requires { ⌜ good ≡ lawful d ⌝ }
+    ensures { λ r. ⌜ r ≡ closeSpec d key ⌝ }
+{
+    let early = early_refusal(good, key);
+    if early != 0 {
+        return refused(early, d);
+    }
+    let pages = d.pages;
+    let Found::At(i) = desk::find_page(pages, key) else {
+        return refused(2, d);
+    };
+    let places = d.places;
+    let place = desk::find_place(places, key);
+    let page = pages[i];
+    let unused = desk::unused_page();
+    let learned = learned_place(key, page.table);
+    let mut next = desk::with_place(d, place, learned);
+    next.pages[i] = unused;
+    done(0, 0, next)
+}
+
+// Abandon: the page is gone, and a place that was only reserved is free.
+pub fn abandon_when(d: Desk, key: Key, good: bool) -> Outcome
+    requires { ⌜ good ≡ lawful d ⌝ }
+    ensures { λ r. ⌜ r ≡ abandonSpec d key ⌝ }
+{
+    let early = early_refusal(good, key);
+    if early != 0 {
+        return refused(early, d);
+    }
+    let pages = d.pages;
+    let Found::At(i) = desk::find_page(pages, key) else {
+        return refused(2, d);
+    };
+    let places = d.places;
+    let unused = desk::unused_page();
+    if desk::is_found(desk::find_table(places, key)) {
+        let mut next = d;
+        next.pages[i] = unused;
+        return done(0, 0, next);
+    }
+    let free = desk::vacant_place();
+    let place = desk::find_place(places, key);
+    let mut next = desk::with_place(d, place, free);
+    next.pages[i] = unused;
+    done(0, 0, next)
+}
+
+// Drop: the class's learned table is forgotten.
+pub fn drop_when(d: Desk, key: Key, good: bool) -> Outcome
+    requires { ⌜ good ≡ lawful d ⌝ }
+    ensures { λ r. ⌜ r ≡ dropSpec d key ⌝ }
+{
+    let early = early_refusal(good, key);
+    if early != 0 {
+        return refused(early, d);
+    }
+    let pages = d.pages;
+    if desk::is_found(desk::find_page(pages, key)) {
+        return refused(3, d);
+    }
+    let places = d.places;
+    let Found::At(i) = desk::find_table(places, key) else {
+        return refused(11, d);
+    };
+    let free = desk::vacant_place();
+    let mut next = d;
+    next.places[i] = free;
+    done(0, 0, next)
+}
+
+// Open: the working table is the class's learned table, or the fresh one.
+pub fn open_when(d: Desk, ask: Opening, good: bool) -> Outcome
+    requires { ⌜ good ≡ lawful d ⌝ }
+    ensures { λ r. ⌜ r ≡ openSpec d ask ⌝ }
+{
+    let key = ask.key;
+    let early = early_refusal(good, key);
+    if early != 0 {
+        return refused(early, d);
+    }
+    if !in_range(ask.width, 2048) {
+        return refused(6, d);
+    }
+    let pages = d.pages;
+    if desk::is_found(desk::find_page(pages, key)) {
+        return refused(3, d);
+    }
+    let Found::At(i) = desk::free_page(pages) else {
+        return refused(4, d);
+    };
+    let places = d.places;
+    let Found::At(j) = desk::find_table(places, key) else {
+        return open_new(d, ask, i);
+    };
+    let learned = places[j];
+    let opened = page_from(ask, learned.table);
+    let mut next = d;
+    next.pages[i] = opened;
+    done(0, 0, next)
+}
+
+// The open page of a class without a table reserves a place.
+pub fn open_new(d: Desk, ask: Opening, i: usize) -> Outcome
+    requires { ⌜ i < 4 ⌝ }
+    ensures { λ r. ⌜ r ≡ openNew d ask i ⌝ }
+{
+    let places = d.places;
+    let Found::At(j) = desk::free_place(places) else {
+        return refused(5, d);
+    };
+    let reserved = reserved_place(ask.key);
+    let table = Table::fresh();
+    let opened = page_from(ask, table);
+    let mut next = d;
+    next.places[j] = reserved;
+    next.pages[i] = opened;
+    done(0, 0, next)
+}
+
+// A table's bytes in the front of a buffer, the rest kept.
+pub fn show_table(table: Table, out: &mut [u8])
+    requires { ⌜ 128 ≤ length (now out) ⌝ }
+    ensures { λ _. ⌜ now (out .exit) ≡ inFront (table .entries) (now (out .entry)) ⌝ }
+{
+    let mut i: usize = 0;
+    while i < 128 {
+        out[i] = table.entries[i];
+        i += 1;
+    }
+}
+
+// Look: the learned table, one byte per context. While a page is open this is still the old table.
+pub fn look_when(d: Desk, key: Key, out: &mut [u8], good: bool) -> Outcome
+    requires { ⌜ good ≡ lawful d ⌝ }
+    ensures { λ r. ⌜ (r ≡ lookSpec d key (now (out .entry))) × (now (out .exit) ≡ lookLent d key (now (out .entry))) ⌝ }
+{
+    let early = early_refusal(good, key);
+    if early != 0 {
+        return refused(early, d);
+    }
+    let places = d.places;
+    let Found::At(i) = desk::find_table(places, key) else {
+        return refused(11, d);
+    };
+    if out.len() < 128 {
+        store::clear(out);
+        return refused(9, d);
+    }
+    let place = places[i];
+    show_table(place.table, out);
+    done(128, 0, d)
+}
+
+// Write band: the code from the page's working table and last row, which both go on.
+pub fn write_when(d: Desk, ask: Ask, pels: &[u8], out: &mut [u8], good: bool) -> Outcome
+    requires { ⌜ good ≡ lawful d ⌝ }
+    ensures { λ r. ⌜ (r ≡ writeSpec d ask (now (pels .entry)) (now (out .entry))) × (now (out .exit) ≡ writeLent d ask (now (pels .entry)) (now (out .entry))) ⌝ }
+{
+    let key = ask.key;
+    let early = early_refusal(good, key);
+    if early != 0 {
+        return refused(early, d);
+    }
+    if !in_range(ask.rows, 64) {
+        return refused(6, d);
+    }
+    let pages = d.pages;
+    let Found::At(i) = desk::find_page(pages, key) else {
+        return refused(2, d);
+    };
+    let page = pages[i];
+    if page.state != 1 {
+        return refused(7, d);
+    }
+    let width = page.width as usize;
+    let rows = ask.rows as usize;
+    if pels.len() != rows * template::row_bytes(width) {
+        return refused(6, d);
+    }
+    if !template::band_padded(pels, width, rows) {
+        return refused(8, d);
+    }
+    let table = page.table;
+    let last = page.last;
+    let wrote = band::write_band(table, last, width, rows, pels, out);
+    if !wrote.room {
+        return refused(9, d);
+    }
+    let served = served_page(page, wrote);
+    let mut next = d;
+    next.pages[i] = served;
+    done(wrote.length as u64, wrote.shifts, next)
+}
+
+// The page after a band: its table and last row.
+pub fn served_page(page: Page, wrote: Wrote) -> Page
+    ensures { λ r. ⌜ r ≡ pageAfter page wrote ⌝ }
+{
+    let table = wrote.table;
+    let last = wrote.last;
+    Page {
+        state: page.state,
+        school: page.school,
+        class: page.class,
+        width: page.width,
+        table: table,
+        last: last,
+    }
+}

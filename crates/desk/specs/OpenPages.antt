@@ -1,0 +1,83 @@
+-- An open page of a lawful desk has a lawful width and table. Assumes nothing.
+use mathlib.Core.Path.{_≡_, refl, _∙_}
+use Prim.Native.Nat.{ℕ, zero, suc, _-_, _≤_}
+use native.Mathlib.Omega.{arith}
+use mathlib.Core.Bool.{Bool, true, false, cond, _&&_}
+use mathlib.Core.List.{List, [], _∷_}
+use lib.Dec.{leb}
+use lib.ListN.{getD}
+use borrow.Author.Tests.{leb-true}
+use Rattle.estimate.specs.Estimate.{indexOf, LawfulTable}
+use Rattle.band.specs.Band.{maxWidth}
+use Rattle.desk.specs.declared.Key.{Key}
+use Rattle.desk.specs.declared.Page.{Page}
+use Rattle.desk.specs.declared.Desk.{Desk}
+use Rattle.desk.specs.declared.Found.the-variants.{At}
+use Rattle.desk.specs.Places.{isUsed, isPageOf, findBy, pageFound, noPage}
+use Rattle.desk.specs.Lawful.{within, all, lawfulKey, lawfulTable, noStray, lawfulPage, lawful}
+
+-- both tests hold
+pub both-left : (a b : Bool) → (a && b) ≡ true → a ≡ true
+both-left true b e = refl
+both-left false b e = e
+
+pub both-right : (a b : Bool) → (a && b) ≡ true → b ≡ true
+both-right true b e = e
+both-right false b e = absurd (let z : _≡_ {A = ℕ} 0 1 = cc in omega arith)
+
+pub within-both : (low n high : ℕ) → within low n high ≡ true → (low ≤ n) × (n ≤ high)
+within-both low n high e = (leb-true low n (both-left (leb low n) (leb n high) e), leb-true n high (both-right (leb low n) (leb n high) e))
+
+-- what holds of every element holds of the one that was found, and so does the test (none is what stands past the end)
+module _ {A : Type 0} (test law : A → Bool) (none : A) where
+  Good : A → Type 0
+  Good x = (law x ≡ true) × (test x ≡ true)
+
+  from : (xs : List A) (b j : ℕ) → all law xs ≡ true → findBy test xs b ≡ At j → (b ≤ j) × Good (getD xs (j - b) none)
+  unfolding all findBy Good
+  from [] b j l f = absurd (let z : _≡_ {A = ℕ} 0 1 = cc in omega arith)
+  from (x ∷ xs) b j l f = go (test x) refl f (λ q. from xs (suc b) j (both-right (law x) (all law xs) l) q)
+    where
+      at : (n : ℕ) → j - b ≡ n → Good (getD (x ∷ xs) n none) → Good (getD (x ∷ xs) (j - b) none)
+      at n e g = rw e g
+
+      go : (y : Bool) → test x ≡ y → cond y (At b) (findBy test xs (suc b)) ≡ At j → (findBy test xs (suc b) ≡ At j → (suc b ≤ j) × Good (getD xs (j - suc b) none))
+          → (b ≤ j) × Good (getD (x ∷ xs) (j - b) none)
+      go true t f r = let z : b ≡ j = cc in (omega arith, at 0 (omega arith) (both-left (law x) (all law xs) l, t))
+      go false t f r = let z : suc b ≤ j = r f .0 in (omega arith, at (suc (j - suc b)) (omega arith) (r f .1))
+
+  pub at-found : (xs : List A) (i : ℕ) → all law xs ≡ true → findBy test xs 0 ≡ At i → (law (getD xs i none) ≡ true) × (test (getD xs i none) ≡ true)
+  unfolding Good
+  at-found xs i l f = let e : i - 0 ≡ i = omega arith in rw e at (from xs 0 i l f .1)
+
+-- every element of a list
+all-at : (law : ℕ → Bool) (xs : List ℕ) (i : ℕ) → law 0 ≡ true → all law xs ≡ true → law (getD xs i 0) ≡ true
+unfolding all
+all-at law [] i z l = z
+all-at law (x ∷ xs) zero z l = both-left (law x) (all law xs) l
+all-at law (x ∷ xs) (suc i) z l = all-at law xs i z (both-right (law x) (all law xs) l)
+
+pub table-lawful : (t : List ℕ) → lawfulTable t ≡ true → LawfulTable t
+table-lawful t l cx = leb-true (indexOf (getD t cx 0)) 29 (all-at (λ e. leb (indexOf e) 29) t cx refl l)
+
+-- ---- an open page
+pub record OpenPage (p : Page) : Type 0 where
+  pub some : 1 ≤ p .width
+  pub small : p .width ≤ maxWidth
+  pub table : LawfulTable (p .table .entries)
+
+page-open : (p : Page) → lawfulPage p ≡ true → isUsed (p .state) ≡ true → OpenPage p
+unfolding lawfulPage
+page-open p l u = parts (within 1 (p .width) maxWidth) (lawfulTable (p .table .entries)) (noStray (p .width) (p .last)) (leb (p .state) 2) (lawfulKey (p .school) (p .class)) refl refl (rw u at l)
+  where
+    parts : (w t s a k : Bool) → within 1 (p .width) maxWidth ≡ w → lawfulTable (p .table .entries) ≡ t → (a && (k && (w && (t && s)))) ≡ true → OpenPage p
+    parts w t s a k p q e =
+        let m = both-right k (w && (t && s)) (both-right a (k && (w && (t && s))) e) in
+        let x = within-both 1 _ maxWidth (p ∙ both-left w (t && s) m) in
+        record { some = x .0; small = x .1; table = table-lawful _ (q ∙ both-left t s (both-right w (t && s) m)) }
+
+pub open-page : (d : Desk) (k : Key) (i : ℕ) → lawful d ≡ true → pageFound d k ≡ At i → OpenPage (getD (d .pages) i noPage)
+unfolding lawful
+open-page d k i l f =
+    let a = at-found (isPageOf k) lawfulPage noPage (d .pages) i (both-left _ _ (both-left _ _ l)) f in
+    page-open (getD (d .pages) i noPage) (a .0) (both-left _ _ (a .1))

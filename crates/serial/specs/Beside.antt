@@ -1,0 +1,77 @@
+-- A run at the desk, beside the same run on the slots; every desk that a run from the empty desk comes to is lawful. Assumes nothing.
+use mathlib.Core.Path.{_≡_, refl, ap, _∙_}
+use mathlib.Core.Bool.{Bool, true, false, cond, _||_}
+use mathlib.Core.List.{List, [], _∷_}
+use mathlib.Core.Option.{Option, some, none}
+use Prim.Native.Nat.{ℕ}
+use native.Mathlib.Omega.{arith}
+use lib.Dec.{eqb}
+use borrow.Author.Tests.{eqb-true}
+use Rattle.turns.specs.Service.{accepted, refused, crowded}
+use Rattle.turns.specs.Accepted.{AllAccepted}
+use Rattle.turns.specs.Desk.{given}
+use Rattle.turns.specs.Shelves.{frees}
+use Rattle.turns.specs.SlotDesk.{Slotted, slotStep, slotRun, slotAfter}
+use Rattle.turns.specs.SlotDesk as slots
+use Rattle.estimate.specs.declared.Table.{Table}
+use Rattle.desk.specs.declared.Key.{Key}
+use Rattle.desk.specs.declared.Desk.{Desk}
+use Rattle.desk.specs.Places.{emptyDesk, unusedPage, freePlace}
+use Rattle.desk.specs.Lawful.{lawful}
+use Rattle.kept.specs.Lists.{orElse}
+use Rattle.kept.specs.View.{shelves}
+use Rattle.kept.specs.Sound.{Sound}
+use Rattle.kept.specs.Stored.{cellOf, noTable, table-found, table-there}
+use Rattle.kept.specs.Kept.{empty-lawful}
+use Rattle.serial.specs.Run.{Call, Reading, AllDone, calling, markOf, step, run, after, learnedTable}
+use Rattle.serial.specs.Office.{bureau}
+use Rattle.serial.specs.Bridge.{Alike, alike, step-lawful}
+
+module _ (R : Reading) where
+  pub record SameRun (d : Desk) (cs : List Call) : Type 0 where
+    pub answers : run R d cs ≡ slotRun (bureau R) (shelves d) cs
+    pub ends : shelves (after R d cs) ≡ slotAfter (bureau R) (shelves d) cs
+    pub stays : lawful (after R d cs) ≡ true
+
+  pub same-run : (cs : List Call) (d : Desk) → lawful d ≡ true → SameRun d cs
+  unfolding run after slotRun slotAfter
+  same-run [] d h = record { answers = refl; ends = refl; stays = h }
+  same-run (c ∷ cs) d h = go (alike R d h c) (same-run cs (step R d c .desk) (step-lawful R d h c))
+    where
+      go : Alike R (step R d c) (slotStep (bureau R) (shelves d) c) → SameRun (step R d c .desk) cs → SameRun d (c ∷ cs)
+      go a ih =
+          record {
+            answers = λ i. record { call = c; mark = a .mark i; output = a .output i } ∷ (ih .answers ∙ ap (λ (s : Slotted (bureau R)). slotRun (bureau R) s cs) (a .desk)) i;
+            ends = ih .ends ∙ ap (λ (s : Slotted (bureau R)). slotAfter (bureau R) s cs) (a .desk);
+            stays = ih .stays;
+          }
+
+  pub empty-shelves : shelves emptyDesk ≡ slots.emptyDesk (bureau R)
+  unfolding shelves emptyDesk unusedPage freePlace frees
+  empty-shelves = refl
+
+  pub done-number : (n : ℕ) → markOf n ≡ accepted → n ≡ 0
+  unfolding markOf
+  done-number n e = go (eqb n 0) (eqb n 4 || eqb n 5) refl e
+    where
+      go : (a b : Bool) → eqb n 0 ≡ a → cond a accepted (cond b crowded refused) ≡ accepted → n ≡ 0
+      go true b f e = eqb-true n 0 f
+      go false true f e = let z : _≡_ {A = ℕ} 0 1 = cc in absurd (omega arith)
+      go false false f e = let z : _≡_ {A = ℕ} 0 1 = cc in absurd (omega arith)
+
+  pub run-done : (cs : List Call) (d : Desk) → AllAccepted calling (run R d cs) → AllDone (run R d cs)
+  unfolding run AllAccepted AllDone
+  run-done [] d a = tt
+  run-done (c ∷ cs) d a = (done-number (step R d c .answer .number) (a .0), run-done cs (step R d c .desk) (a .1))
+
+  pub learned-is : (d : Desk) → Sound d → (k : Key) → learnedTable d k ≡ cellOf d k .learned
+  unfolding learnedTable
+  learned-is d s k = rw (table-found d s k, table-there d s k) (go (cellOf d k .learned))
+    where
+      go : (o : Option Table) → cond (given o) (some (orElse o noTable)) none ≡ o
+      go none = refl
+      go (some t) = refl
+
+  -- refusal 12 never comes in a run from the empty desk
+  pub reached-lawful : (cs : List Call) → lawful (after R emptyDesk cs) ≡ true
+  reached-lawful cs = same-run cs emptyDesk empty-lawful .stays

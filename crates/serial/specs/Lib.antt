@@ -1,0 +1,6 @@
+pub mod Run
+pub mod Office
+pub mod Bridge
+pub mod Beside
+pub mod Demand3
+pub mod Worked

@@ -1,0 +1,16 @@
+pub mod Service
+pub mod Serial
+pub mod Office
+pub mod Desk
+pub mod Base
+pub mod Laws
+pub mod Turns
+pub mod Sense
+pub mod Strike
+pub mod Slots
+pub mod Rows
+pub mod Shelves
+pub mod SlotDesk
+pub mod Rules
+pub mod Accepted
+pub mod Cases

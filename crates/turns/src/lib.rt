@@ -1,0 +1,1 @@
+// Any order of turns, over any desk that serves keys; all of it stands in specs/.
