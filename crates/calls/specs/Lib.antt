@@ -4,3 +4,4 @@ pub mod Opening
 pub mod Tables
 pub mod Showing
 pub mod Bands
+pub mod Reads

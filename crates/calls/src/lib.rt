@@ -1,4 +1,4 @@
-// The calls by value, given whether the desk is lawful. Each tests its refusals in the order of their numbers' table.
+// The calls by value, each first as it is once told whether the desk is lawful. Each tests its refusals in the order of their numbers' table.
 ghost use mathlib.Core.Path.{_≡_};
 ghost use mathlib.Core.Bool.{not};
 ghost use Prim.Native.Nat.{_*_, _≤_, _<_};
@@ -6,9 +6,10 @@ ghost use lib.ListN.{length};
 ghost use Rattle.estimate.specs.declared.Table.{Table};
 ghost use Rattle.store.specs.Store.{inFront};
 ghost use Rattle.desk.specs.Lawful.{within, lawfulKey, lawful};
-ghost use Rattle.desk.specs.Calls.{done, refused, reservedPlace, learnedPlace, openSpec, closeSpec, abandonSpec, dropSpec, lookSpec, lookLent, writeSpec, writeLent};
+ghost use Rattle.desk.specs.Calls.{done, refused, reservedPlace, learnedPlace, openSpec, closeSpec, abandonSpec, dropSpec, lookSpec, lookLent, writeSpec, writeLent, ReadOutcome};
 ghost use Rattle.calls.specs.Refusing.{early};
 ghost use Rattle.calls.specs.Bands.{pageAfter};
+ghost use Rattle.calls.specs.Reads.{pageRead, readFound};
 ghost use Rattle.calls.specs.Opening.{pageFrom, openNew};
 use band::Wrote;
 use desk::Answer;
@@ -22,6 +23,7 @@ use desk::Outcome;
 use desk::Page;
 use desk::Place;
 use estimate::Table;
+use reader::Read;
 
 // A refusal: its number, and the desk as it was.
 pub fn refused(n: u64, d: Desk) -> Outcome
@@ -340,4 +342,127 @@ pub fn served_page(page: Page, wrote: Wrote) -> Page
         table: table,
         last: last,
     }
+}
+
+// Read band: the rows that would have been written as exactly that code. The page's table and last row go on as the writer's did.
+pub fn read_when(d: Desk, ask: Ask, code: &[u8], out: &mut [u8], good: bool) -> Outcome
+    requires { ⌜ good ≡ lawful d ⌝ }
+    ensures { λ r. ⌜ ReadOutcome d ask (now (code .entry)) (now (out .entry)) r (now (out .exit)) ⌝ }
+{
+    let key = ask.key;
+    let early = early_refusal(good, key);
+    if early != 0 {
+        return refused(early, d);
+    }
+    if !in_range(ask.rows, 64) {
+        return refused(6, d);
+    }
+    if code.len() > 32768 {
+        return refused(6, d);
+    }
+    let pages = d.pages;
+    let Found::At(i) = desk::find_page(pages, key) else {
+        return refused(2, d);
+    };
+    let page = pages[i];
+    if page.state != 2 {
+        return refused(7, d);
+    }
+    let width = page.width as usize;
+    let rows = ask.rows as usize;
+    let table = page.table;
+    let last = page.last;
+    let read = reader::read_band(table, last, width, rows, code, out);
+    read_found(d, i, page, read)
+}
+
+// What was found in a code: no room, damaged, or a band.
+pub fn read_found(d: Desk, i: usize, page: Page, read: Read) -> Outcome
+    requires { ⌜ i < 4 ⌝ }
+    ensures { λ r. ⌜ r ≡ readFound d i page read ⌝ }
+{
+    if !read.room {
+        return refused(9, d);
+    }
+    if !read.good {
+        return refused(10, d);
+    }
+    let served = read_page(page, read);
+    let mut next = d;
+    next.pages[i] = served;
+    done(read.length as u64, read.shifts, next)
+}
+
+// The page after a band that was read: its table and last row.
+pub fn read_page(page: Page, read: Read) -> Page
+    ensures { λ r. ⌜ r ≡ pageRead page read ⌝ }
+{
+    let table = read.table;
+    let last = read.last;
+    Page {
+        state: page.state,
+        school: page.school,
+        class: page.class,
+        width: page.width,
+        table: table,
+        last: last,
+    }
+}
+
+// ---- The calls. Each tests the desk itself.
+
+// Open a page, to write or to read.
+pub fn open(d: Desk, ask: Opening) -> Outcome
+    ensures { λ r. ⌜ r ≡ openSpec d ask ⌝ }
+{
+    let good = lawful::lawful_desk(d);
+    open_when(d, ask, good)
+}
+
+// Close a page: its table is the class's.
+pub fn close(d: Desk, key: Key) -> Outcome
+    ensures { λ r. ⌜ r ≡ closeSpec d key ⌝ }
+{
+    let good = lawful::lawful_desk(d);
+    close_when(d, key, good)
+}
+
+// Abandon a page: the class's table is as before.
+pub fn abandon(d: Desk, key: Key) -> Outcome
+    ensures { λ r. ⌜ r ≡ abandonSpec d key ⌝ }
+{
+    let good = lawful::lawful_desk(d);
+    abandon_when(d, key, good)
+}
+
+// Drop a class's learned table.
+pub fn forget(d: Desk, key: Key) -> Outcome
+    ensures { λ r. ⌜ r ≡ dropSpec d key ⌝ }
+{
+    let good = lawful::lawful_desk(d);
+    drop_when(d, key, good)
+}
+
+// Look at a class's learned table.
+pub fn look(d: Desk, key: Key, out: &mut [u8]) -> Outcome
+    ensures { λ r. ⌜ (r ≡ lookSpec d key (now (out .entry))) × (now (out .exit) ≡ lookLent d key (now (out .entry))) ⌝ }
+{
+    let good = lawful::lawful_desk(d);
+    look_when(d, key, out, good)
+}
+
+// Write a band.
+pub fn write(d: Desk, ask: Ask, pels: &[u8], out: &mut [u8]) -> Outcome
+    ensures { λ r. ⌜ (r ≡ writeSpec d ask (now (pels .entry)) (now (out .entry))) × (now (out .exit) ≡ writeLent d ask (now (pels .entry)) (now (out .entry))) ⌝ }
+{
+    let good = lawful::lawful_desk(d);
+    write_when(d, ask, pels, out, good)
+}
+
+// Read a band.
+pub fn read(d: Desk, ask: Ask, code: &[u8], out: &mut [u8]) -> Outcome
+    ensures { λ r. ⌜ ReadOutcome d ask (now (code .entry)) (now (out .entry)) r (now (out .exit)) ⌝ }
+{
+    let good = lawful::lawful_desk(d);
+    read_when(d, ask, code, out, good)
 }

@@ -1,0 +1,165 @@
+-- Read answers, leaves the desk and fills the lent buffer as document 01 says. Assumes nothing.
+use mathlib.Core.Path.{_≡_, sym, _∙_}
+use Prim.Native.Nat.{_<_, _≤_}
+use native.Mathlib.Omega.{arith}
+use mathlib.Core.Bool.{true}
+use lib.ListN.{getD}
+use borrow.Author.Tests.{not-true, not-false}
+use Rattle.band.specs.Band.{maxRows}
+use Rattle.desk.specs.declared.Found.the-variants.{At}
+use Rattle.desk.specs.Places.{noPage, pageFound}
+use Rattle.desk.specs.Lawful.{within}
+use Rattle.desk.specs.OpenPages.{OpenPage, within-both}
+use Rattle.desk.specs.Calls.{readTests}
+use Rattle.calls.specs.Refusing.{Begun}
+use Rattle.calls.specs.Reads.{read-early, read-early-keeps, read-begun, opened-page, read-rows, read-long, read-none, read-other-way, read-room, read-end, read-refused, read-answers}
+use borrow.Author.Needs.{needs}
+use Rattle.calls.proofs.read_when.Statement.{statement}
+use Rattle.calls.proofs.read_when.Tie as tie
+
+-- past the first two tests
+on : (c : tie.Else1) → let a = c .before .before .before .before .before .args in Begun (readTests (a .d) (a .ask) (a .code .now) (a .out .now))
+on c =
+    let a = c .before .before .before .before .before .args in
+    let r = c .before .early-refusal in
+    read-begun (a .d) (a .ask) (a .code .now) (a .out .now) (a .good) (r .result) (c .before .before .before .before .before .pre) (r .ensures) (c .if1 .left)
+
+ranged : (c : tie.Else2) → within 1 (c .before .before .before .before .before .before .before .args .ask .rows) maxRows ≡ true
+ranged c = sym (c .before .in-range .ensures) ∙ not-false (c .before .in-range .result) (c .if2 .left)
+
+ranged-by : (c : tie.Else2) → let a = c .before .before .before .before .before .before .before .args in (1 ≤ a .ask .rows) × (a .ask .rows ≤ maxRows)
+ranged-by c = within-both 1 (c .before .before .before .before .before .before .before .args .ask .rows) maxRows (ranged c)
+
+-- what was found is within
+slot-within : (c : tie.After-known-told) → c .before .i .given .0 .0 < 4
+slot-within c = rw (c .before .i .given .1) at (c .before .before .before .find-page .ensures .1)
+
+at-slot : (c : tie.After-known-told) → let a = c .before .before .before .before .before .before .before .before .before .before .before .before .before .args in pageFound (a .d) (a .ask .key) ≡ At (c .before .i .given .0 .0)
+at-slot c = sym (c .before .before .before .find-page .ensures .0) ∙ c .before .i .given .1
+
+-- the open page of a lawful desk
+opened : (c : tie.After-known-told) → let a = c .before .before .before .before .before .before .before .before .before .before .before .before .before .args in OpenPage (getD (a .d .pages) (c .before .i .given .0 .0) noPage)
+opened c = let a = c .before .before .before .before .before .before .before .before .before .before .before .before .before .args in opened-page (a .d) (a .ask) (a .code .now) (a .out .now) (on (c .before .before .before .before .before .before .before .before)) (c .before .i .given .0 .0) (at-slot c)
+
+early-refusal-requires : tie.Need-early-refusal-requires
+early-refusal-requires c κs = search needs
+
+refused-requires : tie.Need-refused-requires
+refused-requires c κs = search needs
+
+returns : tie.Need-returns
+returns c =
+    let a = c .before .before .before .before .before .before .args in
+    let r = c .before .before .early-refusal in
+    read-refused (a .d) (a .ask) (a .code .now) (a .out .now) (c .refused .result) (r .result) (c .refused .ensures)
+    (read-early (a .d) (a .ask) (a .code .now) (a .out .now) (a .good) (r .result) (c .before .before .before .before .before .before .pre) (r .ensures) (c .before .if1 .taken)) (c .before .if1 .taken)
+    (read-early-keeps (a .d) (a .ask) (a .code .now) (a .out .now) (a .good) (r .result) (c .before .before .before .before .before .before .pre) (r .ensures))
+
+in-range-requires : tie.Need-in-range-requires
+in-range-requires c κs = search needs
+
+refused-requires-2 : tie.Need-refused-requires-2
+refused-requires-2 c κs = search needs
+
+returns-2 : tie.Need-returns-2
+returns-2 c =
+    let a = c .before .before .before .before .before .before .before .before .args in
+    let w = c .before .before .in-range in
+    read-refused (a .d) (a .ask) (a .code .now) (a .out .now) (c .refused2 .result) 6 (c .refused2 .ensures)
+    (read-rows (a .d) (a .ask) (a .code .now) (a .out .now) (on (c .before .before .before)) (sym (w .ensures) ∙ not-true (w .result) (c .before .if2 .taken)))
+    (λ z. omega arith) (λ z. omega arith, λ z. omega arith)
+
+refused-requires-3 : tie.Need-refused-requires-3
+refused-requires-3 c κs = search needs
+
+returns-3 : tie.Need-returns-3
+returns-3 c =
+    let a = c .before .before .before .before .before .before .before .before .before .args in
+    read-refused (a .d) (a .ask) (a .code .now) (a .out .now) (c .refused3 .result) 6 (c .refused3 .ensures)
+    (read-long (a .d) (a .ask) (a .code .now) (a .out .now) (on (c .before .before .before .before)) (ranged (c .before .before)) (c .before .if3 .taken))
+    (λ z. omega arith) (λ z. omega arith, λ z. omega arith)
+
+find-page-requires : tie.Need-find-page-requires
+find-page-requires c κs = search needs
+
+enum-known-i : tie.Need-enum-known-i
+enum-known-i c = search needs
+
+enum-told : tie.Need-enum-told
+enum-told c = search needs
+
+refused-requires-4 : tie.Need-refused-requires-4
+refused-requires-4 c κs = search needs
+
+returns-4 : tie.Need-returns-4
+returns-4 c =
+    let a = c .before .before .before .before .before .before .before .before .before .before .before .before .before .args in
+    read-refused (a .d) (a .ask) (a .code .now) (a .out .now) (c .refused4 .result) 2 (c .refused4 .ensures)
+    (read-none (a .d) (a .ask) (a .code .now) (a .out .now) (on (c .before .before .before .before .before .before .before .before)) (ranged (c .before .before .before .before .before .before)) (c .before .before .before .before .before .if3 .left) (sym (c .before .before .before .find-page .ensures .0) ∙ c .before .enum-told .given .1))
+    (λ z. omega arith) (λ z. omega arith, λ z. omega arith)
+
+mul-page : tie.Need-mul-page
+mul-page c = let h = slot-within c in omega arith
+
+array-copy-out-page : tie.Need-array-copy-out-page
+array-copy-out-page c = slot-within c
+
+refused-requires-5 : tie.Need-refused-requires-5
+refused-requires-5 c κs = search needs
+
+returns-5 : tie.Need-returns-5
+returns-5 c =
+    let a = c .before .before .before .before .before .before .before .before .before .before .before .before .before .before .before .before .before .args in
+    read-refused (a .d) (a .ask) (a .code .now) (a .out .now) (c .refused5 .result) 7 (c .refused5 .ensures)
+    (read-other-way (a .d) (a .ask) (a .code .now) (a .out .now) (on (c .before .before .before .before .before .before .before .before .before .before .before .before)) (ranged (c .before .before .before .before .before .before .before .before .before .before)) (c .before .before .before .before .before .before .before .before .before .if3 .left) (c .before .before .before .before .before .i .given .0 .0) (at-slot (c .before .before .before .before)) (c .before .if4 .taken))
+    (λ z. omega arith) (λ z. omega arith, λ z. omega arith)
+
+read-band-requires : tie.Need-read-band-requires
+read-band-requires c κs =
+    let p = opened (c .before .before .before .before .before .before) in
+    let w = ranged-by (c .before .before .before .before .before .before .before .before .before .before .before .before) in
+    (p .some, p .small, w .0, w .1, p .table)
+
+read-found-requires : tie.Need-read-found-requires
+read-found-requires c κs = slot-within (c .before .before .before .before .before .before .before .before .before)
+
+same-length : tie.Need-same-length
+same-length c = search needs
+
+returns-6 : tie.Need-returns-6
+returns-6 c =
+    let a = c .before .before .before .before .before .before .before .before .before .before .before .before .before .before .before .before .before .before .before .before .before .before .before .args in
+    let b = on (c .before .before .before .before .before .before .before .before .before .before .before .before .before .before .before .before .before .before) in
+    let g = ranged (c .before .before .before .before .before .before .before .before .before .before .before .before .before .before .before .before) in
+    let l = c .before .before .before .before .before .before .before .before .before .before .before .before .before .before .before .if3 .left in
+    let i = c .before .before .before .before .before .before .before .before .before .before .before .i .given .0 .0 in
+    let f = at-slot (c .before .before .before .before .before .before .before .before .before .before) in
+    let w = c .before .before .before .before .before .before .before .if4 .left in
+    let r = c .before .before .before .read-band in
+    read-answers (a .d) (a .ask) (a .code .now) (a .out .now) i f (r .result) _ (c .read-found .result) (c .read-found .ensures) (r .ensures) (read-room (a .d) (a .ask) (a .code .now) (a .out .now) b g l i f w) (read-end (a .d) (a .ask) (a .code .now) (a .out .now) b g l i f w)
+
+pub read-when-spec : {M : Type 1} → statement M
+read-when-spec =
+    tie.close
+    (tie.spec
+    early-refusal-requires
+    refused-requires
+    returns
+    in-range-requires
+    refused-requires-2
+    returns-2
+    refused-requires-3
+    returns-3
+    find-page-requires
+    enum-known-i
+    enum-told
+    refused-requires-4
+    returns-4
+    mul-page
+    array-copy-out-page
+    refused-requires-5
+    returns-5
+    read-band-requires
+    read-found-requires
+    same-length
+    returns-6)

@@ -1,0 +1,4 @@
+pub mod Search
+pub mod Reading
+pub mod Certain
+pub mod AnyOrder
