@@ -1,8 +1,9 @@
 -- Document 01, "Refusal numbers, in the order they are tested". Assumes nothing.
+use mathlib.Core.Path.{_≡_, refl}
 use Prim.Native.Nat.{ℕ}
 use mathlib.Core.Bool.{Bool, true, false, cond, _||_}
-use mathlib.Core.List.{List}
-use lib.Dec.{eqb}
+use mathlib.Core.List.{List, [], _∷_, map}
+use lib.Dec.{eqb, leb}
 use Rattle.store.specs.Store.{cleared}
 
 -- the tests of a call; one that does not stand in a call's row is false for it
@@ -47,6 +48,29 @@ noTests =
       padding = false;
       room = false;
     }
+
+-- all tests hold from the n-th on
+abbrev heldFrom : ℕ → Tests
+heldFrom n =
+    record {
+      unlawful = leb n 0;
+      key = leb n 1;
+      size = leb n 2;
+      opened = leb n 3;
+      none = leb n 4;
+      otherWay = leb n 5;
+      pels = leb n 6;
+      untaught = leb n 7;
+      pages = leb n 8;
+      places = leb n 9;
+      padding = leb n 10;
+      room = leb n 11;
+    }
+
+-- the numbers in the order in which they are tested, as the table has them, with the pel length after 7
+pub in-order : map (λ n. refusal (heldFrom n)) (0 ∷ 1 ∷ 2 ∷ 3 ∷ 4 ∷ 5 ∷ 6 ∷ 7 ∷ 8 ∷ 9 ∷ 10 ∷ 11 ∷ 12 ∷ []) ≡ 12 ∷ 1 ∷ 6 ∷ 3 ∷ 2 ∷ 7 ∷ 6 ∷ 11 ∷ 4 ∷ 5 ∷ 8 ∷ 9 ∷ 0 ∷ []
+unfolding refusal
+in-order = refl
 
 -- a refusal leaves the lent output unchanged; 9 and 10 set all of it to zero
 unfoldable pub lentAfter : ℕ → List ℕ → List ℕ

@@ -30,6 +30,7 @@ pub struct Ask {
 }
 
 // An open page, or an unused slot. state: 0 unused, 1 open to write, 2 open to read.
+#[repr(C)]
 pub struct Page {
     pub state: u64,
     pub school: u64,
@@ -40,6 +41,7 @@ pub struct Page {
 }
 
 // A class place. state: 0 free, 1 reserved by an open page, 2 learned.
+#[repr(C)]
 pub struct Place {
     pub state: u64,
     pub school: u64,
@@ -47,12 +49,14 @@ pub struct Place {
     pub table: Table,
 }
 
+#[repr(C)]
 pub struct Desk {
     pub pages: [Page; 4],
     pub places: [Place; 8],
 }
 
 // What every call answers.
+#[repr(C)]
 pub struct Answer {
     pub number: u64,
     pub length: u64,

@@ -3,6 +3,7 @@ ghost use mathlib.Core.Path.{_≡_};
 ghost use Rattle.estimate.specs.Estimate.{rowOf, next, fresh, LawfulEntry};
 
 // One entry for each context, 2 × index + sense.
+#[repr(C)]
 pub struct Table {
     pub entries: [u8; 128],
 }

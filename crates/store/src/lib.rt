@@ -82,13 +82,3 @@ pub fn front_of(buf: &[u8], n: usize) -> &[u8]
     }
     &buf[..0]
 }
-
-// The same of a buffer that was lent to be changed.
-pub fn front_mut(buf: &mut [u8], n: usize) -> &mut [u8]
-    ensures { λ r. ⌜ now r ≡ front n (now (buf .entry)) ⌝ }
-{
-    if n <= buf.len() {
-        return &mut buf[..n];
-    }
-    &mut buf[..0]
-}

@@ -1,0 +1,18 @@
+//! The refusal numbers.
+
+/// The twelve refusals, each with its number in document 01's table.
+#[derive(Clone, Copy, Debug, PartialEq, Eq)]
+pub enum Refusal {
+    Key = 1,
+    NoPage = 2,
+    PageOpen = 3,
+    PagesFull = 4,
+    PlacesFull = 5,
+    Size = 6,
+    Direction = 7,
+    Padding = 8,
+    NoRoom = 9,
+    Damaged = 10,
+    NoTable = 11,
+    Unlawful = 12,
+}

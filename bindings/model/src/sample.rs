@@ -1,0 +1,363 @@
+//! Random tables, bands, desks and spoiled codes.
+
+use crate::band::{row_bytes, Row, State, MAX_WIDTH};
+use crate::desk::{Desk, Direction, Key, Page, Place, PAGES};
+use crate::random::Random;
+use crate::table::{after_expected, after_unexpected, Table, CONTEXTS, ENTRIES, SIZES};
+
+/// Twelve keys in which each school and each class number occurs more than
+/// once: more than there are places, and some differ in the school alone.
+pub fn keys() -> Vec<Key> {
+    let classes = [5, 1, 300, 65_535];
+    let schools = [1, 2, 65_535];
+    let of_class = |class| schools.map(|school| Key { school, class });
+    classes.into_iter().flat_map(of_class).collect()
+}
+
+/// Packed rows with the pel at (x, y) black where `black` says so.
+pub fn rows(width: usize, rows: usize, mut black: impl FnMut(usize, usize) -> bool) -> Vec<u8> {
+    let bytes = row_bytes(width);
+    let mut pels = vec![0; rows * bytes];
+    for y in 0..rows {
+        for x in 0..width {
+            if black(x, y) {
+                pels[y * bytes + x / 8] |= 0x80 >> (x % 8);
+            }
+        }
+    }
+    pels
+}
+
+/// A ruled sheet: a black row in every eight, and a margin.
+pub fn ruled(width: usize, height: usize) -> Vec<u8> {
+    rows(width, height, |x, y| y % 8 == 7 || x == width / 16)
+}
+
+/// A grey ramp through a 4 x 4 ordered dither.
+pub fn halftone(width: usize, height: usize) -> Vec<u8> {
+    const DOTS: [[usize; 4]; 4] = [[0, 8, 2, 10], [12, 4, 14, 6], [3, 11, 1, 9], [15, 7, 13, 5]];
+    rows(width, height, |x, y| DOTS[y % 4][x % 4] < x * 16 / width)
+}
+
+/// Independent pels, black in `percent` of a hundred cases.
+pub fn noise(random: &mut Random, width: usize, height: usize, percent: usize) -> Vec<u8> {
+    rows(width, height, |_, _| random.chance(percent))
+}
+
+/// A lawful table: like a young class's, like an old one's, or anything.
+pub fn table(random: &mut Random) -> Table {
+    let (low, high) = random.pick(&[(0, 1), (0, 8), (0, ENTRIES), (44, ENTRIES), (58, ENTRIES)]);
+    std::array::from_fn(|_| random.between(low, high - 1) as u8)
+}
+
+/// A lawful working table and last row.
+pub fn state(random: &mut Random, width: usize) -> State {
+    let mut last: Row = [0; MAX_WIDTH / 8];
+    let percent = random.pick(&[0, 10, 50]);
+    let row = noise(random, width, 1, percent);
+    last[..row.len()].copy_from_slice(&row);
+    let table = table(random);
+    State { table, last }
+}
+
+/// A band of one of many kinds.
+pub fn band(random: &mut Random, from: &State, width: usize, height: usize) -> Vec<u8> {
+    match random.below(10) {
+        0 => rows(width, height, |_, _| false),
+        1 => rows(width, height, |_, _| true),
+        2 => ruled(width, height),
+        3 => halftone(width, height),
+        4..=6 => {
+            let percent = random.pick(&[2, 10, 50, 90]);
+            noise(random, width, height, percent)
+        }
+        _ => steered(random, from, width, height),
+    }
+}
+
+/// An endless number, in which random bits and runs of one bit take turns.
+struct Target<'a> {
+    random: &'a mut Random,
+    run: usize,
+    bit: Option<u32>,
+}
+
+impl Target<'_> {
+    fn bit(&mut self) -> u32 {
+        if self.run == 0 {
+            self.run = self.random.between(1, 24);
+            self.bit = self.random.pick(&[None, Some(0), Some(0), Some(1)]);
+        }
+        self.run -= 1;
+        self.bit.unwrap_or_else(|| self.random.below(2) as u32)
+    }
+}
+
+/// Chooses each pel so that the interval keeps a target number in it.
+struct Steer<'a> {
+    target: Target<'a>,
+    table: Table,
+    interval: u32,
+    /// The target less the lower end.
+    rest: u32,
+}
+
+impl Steer<'_> {
+    fn pel(&mut self, context: usize) -> bool {
+        let entry = self.table[context];
+        let size = u32::from(SIZES[usize::from(entry / 2)]);
+        let expected = self.rest >= size;
+        if expected {
+            self.rest -= size;
+            self.interval -= size;
+        } else {
+            self.interval = size;
+        }
+        if self.interval < 0x1000 {
+            let next = if expected {
+                after_expected
+            } else {
+                after_unexpected
+            };
+            self.table[context] = next(entry);
+        }
+        while self.interval < 0x1000 {
+            self.interval *= 2;
+            self.rest = 2 * self.rest + self.target.bit();
+        }
+        expected == (entry & 1 == 1)
+    }
+}
+
+/// The sum of weights of the black neighbours of the pel at x.
+fn context(above: &[bool], row: &[bool], x: usize) -> usize {
+    let weigh = |line: &[bool], shift: isize, weight: usize| {
+        let at = x.checked_add_signed(shift);
+        let black = at.and_then(|at| line.get(at)).copied().unwrap_or(false);
+        if black {
+            weight
+        } else {
+            0
+        }
+    };
+    let same = [(-1, 1), (-2, 2)].map(|(shift, weight)| weigh(row, shift, weight));
+    let over = [(2, 4), (1, 8), (0, 16), (-1, 32), (-2, 64)];
+    let over = over.map(|(shift, weight)| weigh(above, shift, weight));
+    same.iter().chain(&over).sum()
+}
+
+/// The pels that lead the lower end toward a number with long runs of 0 and
+/// of 1 bits. It comes to that number from below, and so its bytes are rich
+/// in FF and in carries that come late.
+pub fn steered(random: &mut Random, from: &State, width: usize, height: usize) -> Vec<u8> {
+    let mut target = Target {
+        random,
+        run: 0,
+        bit: None,
+    };
+    let rest = (0..12).fold(0, |rest, _| 2 * rest + target.bit());
+    let mut steer = Steer {
+        target,
+        table: from.table,
+        interval: 0x1000,
+        rest,
+    };
+    let pel_of_last = |x: usize| from.last[x / 8] >> (7 - x % 8) & 1 == 1;
+    let mut picture = vec![(0..width).map(pel_of_last).collect::<Vec<bool>>()];
+    for y in 0..height {
+        let mut row = Vec::with_capacity(width);
+        for x in 0..width {
+            let context = context(&picture[y], &row, x);
+            row.push(steer.pel(context));
+        }
+        picture.push(row);
+    }
+    rows(width, height, |x, y| picture[y + 1][x])
+}
+
+/// A lawful desk: any slots and places in use, in any order.
+pub fn desk(random: &mut Random) -> Desk {
+    let mut desk = Desk::default();
+    let mut keys = keys();
+    for spot in &mut desk.places {
+        if random.chance(70) {
+            let key = keys.swap_remove(random.below(keys.len()));
+            let learned = Some(table(random));
+            *spot = Some(Place { key, learned });
+        }
+    }
+    let mut homes: Vec<usize> = (0..desk.places.len())
+        .filter(|&i| desk.places[i].is_some())
+        .collect();
+    for slot in &mut desk.pages {
+        if homes.is_empty() || random.chance(35) {
+            continue;
+        }
+        let home = homes.swap_remove(random.below(homes.len()));
+        if let Some(place) = &mut desk.places[home] {
+            if random.chance(40) {
+                place.learned = None;
+            }
+            *slot = Some(page(random, place.key));
+        }
+    }
+    desk
+}
+
+/// A lawful desk with one rule probably broken, and the others not: there is
+/// nothing in unused room, but a page or place that does not fit the rest.
+pub fn misfit(random: &mut Random, lawful: &Desk) -> Desk {
+    let mut desk = lawful.clone();
+    let page = random.below(desk.pages.len());
+    let place = random.below(desk.places.len());
+    let other = random.below(desk.places.len());
+    match random.below(12) {
+        0 => desk.pages[page] = None,
+        1 => desk.places[place] = None,
+        2 => desk.pages[page] = desk.pages[(page + 1) % PAGES].clone(),
+        3 => desk.places[place] = desk.places[other].clone(),
+        4 => desk.places.swap(place, other),
+        _ => spoil_part(random, &mut desk, page, place),
+    }
+    desk
+}
+
+/// Changes one field of this page or of this place, if it is used.
+fn spoil_part(random: &mut Random, desk: &mut Desk, page: usize, place: usize) {
+    let key = stray_key(random);
+    let entry = random.pick(&[59, 60, 61, 255]);
+    let context = random.below(CONTEXTS);
+    if let Some(page) = desk.pages[page].as_mut().filter(|_| random.chance(50)) {
+        match random.below(4) {
+            0 => page.key = key,
+            1 => page.width = random.pick(&[0, 2048, 2049, page.width + 1, page.width - 1]),
+            2 => page.state.table[context] = entry,
+            _ => page.state.last[random.below(MAX_WIDTH / 8)] |= 1 << random.below(8),
+        }
+    } else if let Some(place) = &mut desk.places[place] {
+        match (random.below(3), &mut place.learned) {
+            (0, _) => place.key = key,
+            (1, Some(table)) => table[context] = entry,
+            _ => place.learned = None,
+        }
+    }
+}
+
+/// A key of the twelve, or one that is not lawful.
+fn stray_key(random: &mut Random) -> Key {
+    let Key { school, class } = random.pick(&keys());
+    let number = random.pick(&[0, 65_536, u64::MAX]);
+    let (one, two) = (
+        Key {
+            school: number,
+            class,
+        },
+        Key {
+            school,
+            class: number,
+        },
+    );
+    random.pick(&[Key { school, class }, one, two])
+}
+
+fn page(random: &mut Random, key: Key) -> Page {
+    let width = width(random);
+    Page {
+        key,
+        direction: random.pick(&[Direction::Write, Direction::Read]),
+        width: width as u64,
+        state: state(random, width),
+    }
+}
+
+/// A lawful width: most are small, so that much is tried in little time.
+pub fn width(random: &mut Random) -> usize {
+    match random.below(20) {
+        0..=11 => random.between(1, 20),
+        12..=16 => random.between(1, 100),
+        17..=18 => random.between(1, 600),
+        _ => random.between(MAX_WIDTH - 10, MAX_WIDTH),
+    }
+}
+
+/// A code that is probably no band's: cut, extended, changed or made up.
+pub fn spoiled(random: &mut Random, good: &[u8]) -> Vec<u8> {
+    let mut code = good.to_vec();
+    match random.below(10) {
+        0 => code.truncate(good.len() - 1),
+        1 => code.truncate(random.below(good.len())),
+        2 => code.push(0),
+        3 => {
+            let more = random.between(1, 4);
+            code.extend(random.bytes(more));
+        }
+        4 | 5 => code[random.below(good.len())] ^= 1 << random.below(8),
+        6 => code[random.below(good.len())] = random.pick(&[0x00, 0x7F, 0x80, 0xFE, 0xFF]),
+        7 => code.swap(random.below(good.len()), random.below(good.len())),
+        8 => {
+            let length = random.below(6);
+            code = random.bytes(length);
+        }
+        _ => code = other_form(random, good),
+    }
+    code
+}
+
+/// The bits of a code's number: stuff bits are carried into the bits before.
+pub fn digits(code: &[u8]) -> Vec<bool> {
+    let mut digits = Vec::new();
+    let mut after_ff = false;
+    for &byte in code {
+        if after_ff && byte >= 0x80 {
+            let ones = digits.iter().rev().take_while(|&&one| one).count();
+            let zero = digits.len().saturating_sub(ones + 1);
+            digits[zero..].iter_mut().for_each(|digit| *digit ^= true);
+        }
+        let first = usize::from(after_ff);
+        digits.extend((first..8).map(|bit| byte & 0x80 >> bit != 0));
+        after_ff = byte == 0xFF;
+    }
+    digits
+}
+
+/// The bytes of a number, once (at byte `late`) with `xx-1 FF 8y` where
+/// `xx 00 0y` would do. None where the digits do not allow it there.
+pub fn pack(digits: &[bool], late: Option<usize>) -> Option<Vec<u8>> {
+    let mut code: Vec<u8> = Vec::new();
+    let mut at = 0;
+    let mut stuff = 0;
+    while at < digits.len() {
+        let count = if code.last() == Some(&0xFF) { 7 } else { 8 };
+        let take = |at: usize| digits.get(at).copied().unwrap_or(false);
+        let new = (at..at + count).fold(0, |byte, at| byte << 1 | u8::from(take(at)));
+        at += count;
+        code.push(stuff | new);
+        stuff = 0;
+        if late == Some(code.len()) {
+            let zeros = !(at..at + 8).any(take);
+            if new == 0 || !zeros || code[code.len() - 1] == 0xFF {
+                return None;
+            }
+            code.pop();
+            code.extend([new - 1, 0xFF]);
+            at += 8;
+            stuff = 0x80;
+        }
+    }
+    (stuff == 0).then_some(code)
+}
+
+/// Other bytes with the same number, where there are some.
+pub fn other_form(random: &mut Random, good: &[u8]) -> Vec<u8> {
+    let digits = digits(good);
+    let places = (1..good.len()).map(Some).chain([None]);
+    let forms: Vec<Vec<u8>> = places
+        .filter_map(|late| pack(&digits, late))
+        .filter(|form| form != good)
+        .collect();
+    if forms.is_empty() {
+        good.to_vec()
+    } else {
+        random.pick(&forms)
+    }
+}

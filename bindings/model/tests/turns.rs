@@ -1,0 +1,157 @@
+//! Demand 3 on the model, and on desks with a fault that breaks it.
+
+use siftpebble_model::call::{Act, Call, Outcome, Serve};
+use siftpebble_model::run::Run;
+use siftpebble_model::turns::{check, Compared};
+use siftpebble_model::{Desk, Table};
+
+/// A run of calls, made while the model follows it.
+fn run(seed: u64, length: usize) -> Vec<Call> {
+    let mut run = Run::new(seed);
+    let mut desk = Desk::default();
+    (0..length)
+        .map(|_| {
+            let call = run.next(&desk);
+            desk.serve(&call);
+            call
+        })
+        .collect()
+}
+
+#[test]
+fn any_order_of_turns() {
+    let mut total = Compared::default();
+    for seed in 0..4000 {
+        let calls = run(seed, 20 + seed as usize % 200);
+        match check::<Desk>(&calls) {
+            Ok(compared) => total += compared,
+            Err(difference) => panic!("run {seed}: {difference}"),
+        }
+    }
+    println!("{total:?}");
+    assert!(total.bands > 10_000 && total.moved > 10_000 && total.tables > 10_000);
+}
+
+/// A desk that serves calls with a fault.
+struct Faulty<F>(Desk, std::marker::PhantomData<F>);
+
+trait Fault {
+    fn serve(desk: &mut Desk, call: &Call) -> Outcome;
+}
+
+impl<F: Fault> Serve for Faulty<F> {
+    fn empty() -> Self {
+        Faulty(Desk::default(), std::marker::PhantomData)
+    }
+
+    fn serve(&mut self, call: &Call) -> Outcome {
+        F::serve(&mut self.0, call)
+    }
+}
+
+/// The working table of the call's page.
+fn working(desk: &Desk, call: &Call) -> Option<Table> {
+    desk.page(call.key).map(|page| page.state.table)
+}
+
+/// The learned table of the call's class, if that has a place.
+fn learned<'a>(desk: &'a mut Desk, call: &Call) -> Option<&'a mut Option<Table>> {
+    let mut places = desk.places.iter_mut().flatten();
+    let place = places.find(|place| place.key == call.key)?;
+    Some(&mut place.learned)
+}
+
+/// The table is saved after each band.
+struct SavesEachBand;
+
+impl Fault for SavesEachBand {
+    fn serve(desk: &mut Desk, call: &Call) -> Outcome {
+        let outcome = desk.serve(call);
+        let is_band = matches!(call.act, Act::Write { .. } | Act::Read { .. });
+        if is_band && !outcome.answer.is_refusal() {
+            let table = working(desk, call);
+            if let Some(learned) = learned(desk, call) {
+                *learned = table;
+            }
+        }
+        outcome
+    }
+}
+
+/// A look shows the working table of an open page.
+struct LooksAtWork;
+
+impl Fault for LooksAtWork {
+    fn serve(desk: &mut Desk, call: &Call) -> Outcome {
+        let mut outcome = desk.serve(call);
+        let is_look = matches!(call.act, Act::Look { .. });
+        if is_look && !outcome.answer.is_refusal() {
+            if let Some(table) = working(desk, call) {
+                outcome.lent[..table.len()].copy_from_slice(&table);
+            }
+        }
+        outcome
+    }
+}
+
+/// A drop is served while the page is open: its place is then only reserved.
+struct DropsOpenPages;
+
+impl Fault for DropsOpenPages {
+    fn serve(desk: &mut Desk, call: &Call) -> Outcome {
+        let mut outcome = desk.serve(call);
+        if call.act == Act::Drop && outcome.answer.number == 3 {
+            let dropped = learned(desk, call).and_then(Option::take);
+            if dropped.is_some() {
+                outcome.answer.number = 0;
+            }
+        }
+        outcome
+    }
+}
+
+/// An abandoned page teaches its class, if that has a table.
+struct LearnsFromAbandoned;
+
+impl Fault for LearnsFromAbandoned {
+    fn serve(desk: &mut Desk, call: &Call) -> Outcome {
+        let table = working(desk, call);
+        let outcome = desk.serve(call);
+        if call.act == Act::Abandon && !outcome.answer.is_refusal() {
+            if let Some(Some(learned)) = learned(desk, call) {
+                *learned = table.unwrap_or(*learned);
+            }
+        }
+        outcome
+    }
+}
+
+/// Pages are found by the class number only.
+struct FindsByClass;
+
+impl Fault for FindsByClass {
+    fn serve(desk: &mut Desk, call: &Call) -> Outcome {
+        let mut call = call.clone();
+        call.key.school = call.key.school.min(1);
+        desk.serve(&call)
+    }
+}
+
+/// How many of two hundred runs show that demand 3 does not hold.
+fn caught<F: Fault>() -> usize {
+    let fails = |seed: &u64| check::<Faulty<F>>(&run(*seed, 150)).is_err();
+    (0..200).filter(fails).count()
+}
+
+#[test]
+fn faults_are_seen() {
+    let caught = [
+        caught::<SavesEachBand>(),
+        caught::<LooksAtWork>(),
+        caught::<DropsOpenPages>(),
+        caught::<LearnsFromAbandoned>(),
+        caught::<FindsByClass>(),
+    ];
+    println!("{caught:?}");
+    assert!(caught.iter().all(|&runs| runs > 20));
+}

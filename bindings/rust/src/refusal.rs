@@ -1,0 +1,95 @@
+//! The refusals.
+
+use std::fmt;
+
+/// Why a call was refused. A refused call changes nothing in the desk.
+///
+/// ```
+/// use siftpebble::Refusal;
+///
+/// assert_eq!(Refusal::Damaged.number(), 10);
+/// assert_eq!(Refusal::from_number(10), Some(Refusal::Damaged));
+/// assert_eq!(Refusal::Damaged.to_string(), "the code is damaged");
+/// ```
+#[derive(Clone, Copy, Debug, PartialEq, Eq, Hash)]
+pub enum Refusal {
+    /// The school or class number is 0 or above 65,535.
+    BadKey = 1,
+    /// A band, close or abandon without an open page.
+    NoPage = 2,
+    /// An open or drop while the key's page is open.
+    PageOpen = 3,
+    /// An open while 4 pages are open.
+    PagesFull = 4,
+    /// An open for a class without a table, while 8 places are taken.
+    PlacesFull = 5,
+    /// The width is not 1 to 2,048, the rows are not 1 to 64, the pels are not
+    /// exactly all rows, or the code has more than 32,768 bytes.
+    BadSize = 6,
+    /// The page is open in the other direction.
+    OtherDirection = 7,
+    /// A padding bit of the pels is 1.
+    PaddingBit = 8,
+    /// The code is longer than the buffer or than 32,768 bytes, the rows are
+    /// longer than the buffer, or a look's buffer has fewer than 128 bytes.
+    /// All of the buffer is set to zero.
+    NoRoom = 9,
+    /// No band would have been written as these bytes. All of the buffer is set
+    /// to zero; the page stays open.
+    Damaged = 10,
+    /// The class has no learned table.
+    NoTable = 11,
+    /// The desk's bytes are no lawful desk.
+    UnlawfulDesk = 12,
+}
+
+impl Refusal {
+    /// All refusals, in the order of their numbers.
+    pub const ALL: [Refusal; 12] = [
+        Refusal::BadKey,
+        Refusal::NoPage,
+        Refusal::PageOpen,
+        Refusal::PagesFull,
+        Refusal::PlacesFull,
+        Refusal::BadSize,
+        Refusal::OtherDirection,
+        Refusal::PaddingBit,
+        Refusal::NoRoom,
+        Refusal::Damaged,
+        Refusal::NoTable,
+        Refusal::UnlawfulDesk,
+    ];
+
+    /// The refusal's number in document 01's table.
+    pub fn number(self) -> u64 {
+        self as u64
+    }
+
+    /// The refusal with this number.
+    pub fn from_number(number: u64) -> Option<Refusal> {
+        Refusal::ALL
+            .into_iter()
+            .find(|refusal| refusal.number() == number)
+    }
+}
+
+impl fmt::Display for Refusal {
+    fn fmt(&self, f: &mut fmt::Formatter) -> fmt::Result {
+        f.write_str(match self {
+            Refusal::BadKey => "the school or class number is not 1 to 65,535",
+            Refusal::NoPage => "the key has no page open",
+            Refusal::PageOpen => "the key's page is open",
+            Refusal::PagesFull => "four pages are open already",
+            Refusal::PlacesFull => "all eight class places are taken",
+            Refusal::BadSize => "a width, a number of rows or a length is not lawful",
+            Refusal::OtherDirection => "the page is open in the other direction",
+            Refusal::PaddingBit => "a padding bit of the pels is black",
+            Refusal::NoRoom => "there is no room for the result",
+            Refusal::Damaged => "the code is damaged",
+            Refusal::NoTable => "the class has no learned table",
+            Refusal::UnlawfulDesk => "the desk is not lawful",
+        })
+    }
+}
+
+impl std::error::Error for Refusal {}

@@ -1,0 +1,309 @@
+//! The library against the model, call by call: every answer, every byte of
+//! every lent buffer, and the whole desk.
+//!
+//! The seeds are fixed. `SIFTPEBBLE_TIMES=n` tries n times as much, and
+//! `SIFTPEBBLE_SEED=n` something else.
+
+mod common;
+
+use common::layout::{desk_image, desk_of, Image};
+use common::library::Library;
+use common::setting;
+use siftpebble_model::band::{self, MAX_CODE, MAX_ROWS, MAX_WIDTH};
+use siftpebble_model::call::{Act, Answer, Call, Outcome, Serve};
+use siftpebble_model::coder::Watch;
+use siftpebble_model::random::Random;
+use siftpebble_model::run::Run;
+use siftpebble_model::{sample, Desk, Direction, Key, Page, Place, Refusal};
+use std::time::Instant;
+
+/// The carries of one write.
+#[derive(Default)]
+struct Carries {
+    stuff: u64,
+    spent: u64,
+}
+
+impl Watch for &mut Carries {
+    fn stuff_carry(&mut self) {
+        self.stuff += 1;
+    }
+
+    fn spent_carry(&mut self) {
+        self.spent += 1;
+    }
+}
+
+/// The kinds of call, and the numbers that each can answer.
+const KINDS: [(&str, &[usize]); 7] = [
+    ("open", &[0, 12, 1, 6, 3, 4, 5]),
+    ("write", &[0, 12, 1, 6, 2, 7, 8, 9]),
+    ("read", &[0, 12, 1, 6, 2, 7, 9, 10]),
+    ("close", &[0, 12, 1, 2]),
+    ("abandon", &[0, 12, 1, 2]),
+    ("drop", &[0, 12, 1, 3, 11]),
+    ("look", &[0, 12, 1, 11, 9]),
+];
+
+fn kind(act: &Act) -> usize {
+    match act {
+        Act::Open(..) => 0,
+        Act::Write { .. } => 1,
+        Act::Read { .. } => 2,
+        Act::Close => 3,
+        Act::Abandon => 4,
+        Act::Drop => 5,
+        Act::Look { .. } => 6,
+    }
+}
+
+/// What was reached.
+#[derive(Default)]
+struct Report {
+    /// For each kind of call the accepted ones, then the refused by number.
+    answers: [[u64; 13]; KINDS.len()],
+    ff_bytes: u64,
+    carries: Carries,
+}
+
+impl Report {
+    fn count(&mut self, call: &Call, answer: Answer) {
+        self.answers[kind(&call.act)][answer.number as usize] += 1;
+    }
+
+    /// How often each number was answered, and each rare thing in a code seen.
+    fn lines(&self) -> Vec<(String, u64)> {
+        let all = |number: usize| self.answers.iter().map(|kind| kind[number]).sum();
+        let mut lines = vec![("accepted calls".to_string(), all(0))];
+        lines.extend((1..=12).map(|number| (format!("refusal {number}"), all(number))));
+        lines.push(("FF bytes in codes".into(), self.ff_bytes));
+        lines.push(("carries into a stuff bit".into(), self.carries.stuff));
+        lines.push(("FE turned into FF by a carry".into(), self.carries.spent));
+        lines
+    }
+
+    /// Everything was reached: each line, and each number of each kind of call.
+    fn assert_complete(&self) {
+        for (name, count) in self.lines() {
+            assert_ne!(count, 0, "not reached: {name}");
+        }
+        for ((kind, numbers), counts) in KINDS.iter().zip(&self.answers) {
+            for (number, &count) in counts.iter().enumerate() {
+                assert_eq!(count != 0, numbers.contains(&number), "{kind}: {number}");
+            }
+        }
+    }
+}
+
+/// Serves a call on the model, and looks into the code of a write.
+fn expected(desk: &mut Desk, call: &Call, report: &mut Report) -> Outcome {
+    let Act::Write { rows, pels, lent } = &call.act else {
+        return desk.serve(call);
+    };
+    let mut lent = lent.clone();
+    let mut carries = Carries::default();
+    let result = desk.write_watched(call.key, *rows, pels, &mut lent, &mut carries);
+    if let Ok(band) = result {
+        let code = lent[..band.length].iter();
+        report.ff_bytes += code.filter(|&&byte| byte == 0xFF).count() as u64;
+        report.carries.stuff += carries.stuff;
+        report.carries.spent += carries.spent;
+    }
+    let answer = result.into();
+    Outcome { answer, lent }
+}
+
+/// One call on both: they answer alike, and leave the same lent bytes and the
+/// same desk.
+fn compare(desk: &mut Desk, library: &mut Library, call: &Call, report: &mut Report) {
+    let expected = expected(desk, call, report);
+    report.count(call, expected.answer);
+    let outcome = library.serve(call);
+    assert_eq!(outcome, expected, "{call:?}");
+    assert!(
+        desk_image(desk).is_in(&library.bytes()),
+        "the desks differ after {call:?}"
+    );
+}
+
+/// The same call on bytes that are no lawful desk: refused 12, and nothing
+/// has changed.
+fn compare_unlawful(library: &mut Library, call: &Call, report: &mut Report) {
+    let fields = desk_image(&Desk::default()).fields;
+    let before = library.bytes();
+    let outcome = library.serve(call);
+    let refusal: Answer = Err::<(), _>(Refusal::Unlawful).into();
+    assert_eq!(outcome.answer, refusal, "{call:?}");
+    assert_eq!(outcome.lent, call.act.lent(), "{call:?}");
+    let image = Image {
+        bytes: before,
+        fields,
+    };
+    assert!(image.is_in(&library.bytes()), "the desk has changed");
+    report.count(call, refusal);
+}
+
+/// Runs of calls from an empty desk, over several keys.
+fn runs_of_calls(seed: u64, times: u64, report: &mut Report) {
+    for number in 0..2000 * times {
+        let mut run = Run::new(seed + number);
+        let mut desk = Desk::default();
+        let mut library = Library::empty();
+        assert!(desk_image(&desk).is_in(&library.bytes()), "no empty desk");
+        for _ in 0..150 {
+            let call = run.next(&desk);
+            compare(&mut desk, &mut library, &call, report);
+        }
+    }
+}
+
+/// A few calls on each of many lawful desks, with any tables and last rows.
+fn calls_on_any_desk(seed: u64, times: u64, report: &mut Report) {
+    for number in 0..20_000 * times {
+        let mut run = Run::new(seed + number);
+        let mut desk = sample::desk(&mut run.random);
+        let mut library = Library::of(&desk_image(&desk).bytes);
+        for _ in 0..8 {
+            let call = run.next(&desk);
+            compare(&mut desk, &mut library, &call, report);
+        }
+    }
+}
+
+const KEY: Key = Key {
+    school: 1,
+    class: 5,
+};
+
+/// A desk with one open page, from any table and last row.
+fn one_page(random: &mut Random, width: usize) -> Desk {
+    let mut desk = Desk::default();
+    desk.pages[0] = Some(Page {
+        key: KEY,
+        direction: Direction::Write,
+        width: width as u64,
+        state: sample::state(random, width),
+    });
+    let learned = None;
+    desk.places[0] = Some(Place { key: KEY, learned });
+    desk
+}
+
+/// The same desk, with its pages open to be read.
+fn to_be_read(mut desk: Desk) -> Desk {
+    for page in desk.pages.iter_mut().flatten() {
+        page.direction = Direction::Read;
+    }
+    desk
+}
+
+/// One call on a desk that is given to the library as bytes.
+fn call_from(desk: &Desk, act: Act, report: &mut Report) {
+    let call = Call { key: KEY, act };
+    let mut library = Library::of(&desk_image(desk).bytes);
+    compare(&mut desk.clone(), &mut library, &call, report);
+}
+
+/// Large bands: written, read back, and read from spoiled codes.
+fn large_bands(seed: u64, times: u64, report: &mut Report) {
+    let mut random = Random::new(seed);
+    for _ in 0..150 * times {
+        let width = random.between(MAX_WIDTH / 2, MAX_WIDTH);
+        let rows = random.between(MAX_ROWS / 2, MAX_ROWS);
+        let desk = one_page(&mut random, width);
+        let state = desk.page(KEY).map(|page| page.state.clone());
+        let state = state.expect("an open page");
+        let pels = sample::band(&mut random, &state, width, rows);
+        let mut code = vec![0; MAX_CODE];
+        let band = band::write(&mut state.clone(), width, &pels, &mut code, ());
+        code.truncate(band.expect("room").length);
+
+        let (rows, room) = (rows as u64, pels.len());
+        let lent = random.bytes(code.len());
+        let write = Act::Write { rows, pels, lent };
+        call_from(&desk, write, report);
+        let desk = to_be_read(desk);
+        let spoiled = [0; 3].map(|_| sample::spoiled(&mut random, &code));
+        for code in spoiled.into_iter().chain([code]) {
+            let more = random.below(9);
+            let lent = random.bytes(room + more);
+            call_from(&desk, Act::Read { rows, code, lent }, report);
+        }
+    }
+}
+
+/// A call on any bytes, as the lawful desk that they are or as none. It is
+/// chosen to make sense on the desk that the bytes were made of.
+fn call_on(bytes: &[u8], like: &Desk, run: &mut Run, report: &mut Report) {
+    let mut library = Library::of(bytes);
+    let call = run.next(like);
+    match desk_of(bytes) {
+        Some(mut desk) => compare(&mut desk, &mut library, &call, report),
+        None => compare_unlawful(&mut library, &call, report),
+    }
+}
+
+/// Lawful desks with a stray bit, at every place in turn; others with a few
+/// bytes changed; and random bytes.
+fn stray_bits(seed: u64, times: u64, report: &mut Report) {
+    for number in 0..2 * times {
+        let mut run = Run::new(seed + number);
+        let desk = sample::desk(&mut run.random);
+        let mut bytes = desk_image(&desk).bytes;
+        for bit in 0..8 * bytes.len() {
+            bytes[bit / 8] ^= 1 << (bit % 8);
+            call_on(&bytes, &desk, &mut run, report);
+            bytes[bit / 8] ^= 1 << (bit % 8);
+        }
+    }
+    for number in 0..10_000 * times {
+        let mut run = Run::new(seed + number);
+        let desk = sample::desk(&mut run.random);
+        let mut bytes = desk_image(&desk).bytes;
+        for _ in 0..run.random.between(1, 3) {
+            let at = run.random.below(bytes.len());
+            bytes[at] = run.random.pick(&[0, 1, 2, 59, 60, 0x80, 0xFF]);
+        }
+        call_on(&bytes, &desk, &mut run, report);
+        if number % 100 == 0 {
+            let noise = run.random.bytes(bytes.len());
+            call_on(&noise, &desk, &mut run, report);
+        }
+    }
+}
+
+/// Desks with no stray bit, in which a page or place does not fit the rest.
+fn misfits(seed: u64, times: u64, report: &mut Report) {
+    for number in 0..20_000 * times {
+        let mut run = Run::new(seed + number);
+        let desk = sample::desk(&mut run.random);
+        let misfit = sample::misfit(&mut run.random, &desk);
+        let bytes = desk_image(&misfit).bytes;
+        call_on(&bytes, &desk, &mut run, report);
+    }
+}
+
+type Part = (&'static str, fn(u64, u64, &mut Report));
+
+const PARTS: [Part; 5] = [
+    ("runs of calls", runs_of_calls),
+    ("calls on any lawful desk", calls_on_any_desk),
+    ("large bands", large_bands),
+    ("stray bits", stray_bits),
+    ("misfits", misfits),
+];
+
+fn main() {
+    let seed = setting("SIFTPEBBLE_SEED", 1) << 32;
+    let times = setting("SIFTPEBBLE_TIMES", 1);
+    let mut report = Report::default();
+    for (name, part) in PARTS {
+        let start = Instant::now();
+        part(seed, times, &mut report);
+        println!("{name}: {:.1} s", start.elapsed().as_secs_f64());
+    }
+    for (name, count) in report.lines() {
+        println!("{count:>12}  {name}");
+    }
+    report.assert_complete();
+}
