@@ -33,16 +33,6 @@ row-sized e = go (decLt (indexOf e) 30)
     go (yes h) = sized-by (getD rows (indexOf e) 1) (at-each inRange 1 rows tt (indexOf e) h)
     go (no h) = subst Sized (sym (List·getD-eq-default rows 1 {n = indexOf e} (omega arith))) (record { some = omega arith; small = omega arith })
 
--- what stands at an index of the table, whatever is asked past its end
-default : (xs : List ℕ) (i d : ℕ) → i < length xs → getD xs i 0 ≡ getD xs i d
-default [] i d h = absurd (omega arith)
-default (x ∷ xs) zero d h = refl
-default (x ∷ xs) (suc i) d h = default xs i d (omega arith)
-
-pub row-at : (e : ℕ) → LawfulEntry e → getD rows (e / 2) 0 ≡ rowOf e
-unfolding rowOf
-row-at e h = default rows (e / 2) 1 (omega arith)
-
 -- ---- the next entries
 rise-lawful : (e : ℕ) → LawfulEntry (next true e)
 unfolding next rise

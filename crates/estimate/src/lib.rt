@@ -19,39 +19,6 @@ impl Table {
     }
 }
 
-const ROWS: [u64; 30] = [
-    0x0AC1,
-    0x0A81,
-    0x0A01,
-    0x0901,
-    0x0701,
-    0x0681,
-    0x0601,
-    0x0501,
-    0x0481,
-    0x0441,
-    0x0381,
-    0x0301,
-    0x02C1,
-    0x0281,
-    0x0241,
-    0x0181,
-    0x0121,
-    0x00E1,
-    0x00A1,
-    0x0071,
-    0x0059,
-    0x0053,
-    0x0027,
-    0x0017,
-    0x0013,
-    0x000B,
-    0x0007,
-    0x0005,
-    0x0003,
-    0x0001,
-];
-
 // How far an entry falls after an unexpected pel: twice the index's fall.
 const FALLS: [u8; 30] = [
     0,
@@ -86,13 +53,44 @@ const FALLS: [u8; 30] = [
     4,
 ];
 
-// The value Q of an entry's row.
+// The value Q of an entry's row. A match, and not an array, so that the values lie in constant memory and no pel copies them.
 pub fn row_of(e: u8) -> u64
     requires { ⌜ LawfulEntry e ⌝ }
     ensures { λ r. ⌜ r ≡ rowOf e ⌝ }
 {
-    let i = (e / 2) as usize;
-    ROWS[i]
+    let i = e / 2;
+    match i {
+        0 => 0x0AC1,
+        1 => 0x0A81,
+        2 => 0x0A01,
+        3 => 0x0901,
+        4 => 0x0701,
+        5 => 0x0681,
+        6 => 0x0601,
+        7 => 0x0501,
+        8 => 0x0481,
+        9 => 0x0441,
+        10 => 0x0381,
+        11 => 0x0301,
+        12 => 0x02C1,
+        13 => 0x0281,
+        14 => 0x0241,
+        15 => 0x0181,
+        16 => 0x0121,
+        17 => 0x00E1,
+        18 => 0x00A1,
+        19 => 0x0071,
+        20 => 0x0059,
+        21 => 0x0053,
+        22 => 0x0027,
+        23 => 0x0017,
+        24 => 0x0013,
+        25 => 0x000B,
+        26 => 0x0007,
+        27 => 0x0005,
+        28 => 0x0003,
+        _ => 0x0001,
+    }
 }
 
 // The entry after a renormalisation: on the expected pel the index rises, on the other it falls, and at row 0 the sense flips.
