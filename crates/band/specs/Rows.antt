@@ -1,6 +1,6 @@
 -- A row as the writer's loop meets it: after x pels the table, the registers, the window and the buffer are the definition's. Assumes nothing.
 use mathlib.Core.Path.{_≡_, refl, sym, ap, ap₂, _∙_, subst}
-use mathlib.Core.Logic.{_≢_}
+use mathlib.Core.Logic.{_≢_, _⊎_, inl, inr}
 use Prim.Native.Nat.{ℕ, zero, suc, _+_, _-_, _*_, _%_, _≤_, _<_}
 use native.Mathlib.Nat.{add-assoc, add-zero}
 use native.Mathlib.Omega.{arith}
@@ -12,6 +12,7 @@ use lib.Dec.{ltb, eqb}
 use Rattle.ground.specs.Tests.{if-eq, if-ne}
 use Rattle.coder.specs.Writing.{Stage, step, after, after-append}
 use Rattle.coder.specs.Page.{Page, contextOf, entryAt, size, sense, taught, placed, move}
+use Rattle.estimate.specs.declared.Table.{Table}
 use Rattle.estimate.specs.Estimate.{rowOf, next, LawfulEntry, LawfulTable}
 use Rattle.estimate.specs.Laws.{Sized, row-sized, next-lawful, set-lawful}
 use borrow.Author.Tests.{lt-ltb}
@@ -70,6 +71,17 @@ pelled-count c e b v k = subst (λ (w : Registers). w .interval .count ≤ c .in
 pub pelled-lawful : (c : Coder) (e : ℕ) (b : Bool) (v : Pel) → LawfulEntry e → Pelled c e b v → LawfulEntry (v .entry)
 pelled-lawful c e b v l k =
     subst LawfulEntry (sym (k .entry)) (Rattle.ground.specs.Tests.by-cond LawfulEntry (shiftedBy c e b) (next b e) e (λ t. next-lawful b e l) (λ t. l))
+
+-- where there was no shift the entry is as it was, and so is the table
+pub pelled-kept : (c : Coder) (t : List ℕ) (cx : ℕ) (b : Bool) (v : Pel) → Pelled c (getD t cx 0) b v → v .shifts ≡ 0 → set t cx (v .entry) ≡ t
+pelled-kept c t cx b v k z =
+    ap (set t cx) (k .entry ∙ ap (λ (s : Bool). cond s (next b (getD t cx 0)) (getD t cx 0)) (sym (turns-some 11 _) ∙ ap (ltb 0) (sym (k .shifts) ∙ z))) ∙ set-getD t cx 0
+
+-- so a table that is changed only after a shift is the table with that entry
+pub pelled-table : {A B : Type 0} (c : Coder) (t t′ : Table) (cx : ℕ) (b : Bool) (v : Pel) → Pelled c (getD (t .entries) cx 0) b v → (B → v .shifts ≡ 0)
+    → (A × (t′ ≡ record { entries = set (t .entries) cx (v .entry) })) ⊎ (B × (t′ ≡ t)) → t′ .entries ≡ set (t .entries) cx (v .entry)
+pelled-table c t t′ cx b v k z (inl (s, e)) = ap (λ (u : Table). u .entries) e
+pelled-table c t t′ cx b v k z (inr (s, e)) = ap (λ (u : Table). u .entries) e ∙ sym (pelled-kept c (t .entries) cx b v k (z s))
 
 -- the bytes before stay before
 pub lift-behind : (c : Coder) (xs : List ℕ) → lift c xs ≡ behind xs (lift c [])
@@ -172,16 +184,17 @@ module _ (width : ℕ) where
           ∙ step-within t above this c (r .settled) p v (omega arith) (subst (λ (z : ℕ). Pelled c (getD t z 0) (eqb p (getD t z 0 % 2)) v) ec′ k)
           ∙ ap (λ (z : ℕ). stageOf (pageOf (set t z (v .entry)) above (this ++ (p ∷ []))) (lift (v .coder) (r .settled ++ bytesOf v))) (sym ec′)
 
-      pub row-again : (cx p : ℕ) (w′ : Window) (out′ : List ℕ) (at′ : ℕ)
+      pub row-again : (cx p : ℕ) (t′ : List ℕ) (w′ : Window) (out′ : List ℕ) (at′ : ℕ) → t′ ≡ set t cx (v .entry)
           → ((y : ℕ) → getD above y 0 ≤ 1) → cx ≡ context above this x → p ≡ pelAt row x → Pelled c (getD t cx 0) (eqb p (getD t cx 0 % 2)) v
           → w′ .above ≡ (2 * w .above + getD above (x + 3) 0) % 32 → w′ .this ≡ (2 * w .this + p) % 4
           → out′ ≡ stores out at (bytesOf v) → at′ ≡ at + v .settled
-          → RowAt (set t cx (v .entry)) (v .coder) w′ out′ at′ (suc x)
+          → RowAt t′ (v .coder) w′ out′ at′ (suc x)
       unfolding pelsTo
-      row-again cx p w′ out′ at′ b ec ep k wa wt eo ea =
+      row-again cx p t′ w′ out′ at′ et b ec ep k wa wt eo ea =
           let n : length (bytesOf v) ≡ v .settled = few-bytes v (k .few) in
           let m : length (r .settled ++ bytesOf v) ≡ length (r .settled) + length (bytesOf v) = length-append (r .settled) (bytesOf v) in
-          record {
+          subst (λ (z : List ℕ). RowAt z (v .coder) w′ out′ at′ (suc x)) (sym et)
+          (record {
             settled = r .settled ++ bytesOf v;
             stage = subst (λ (z : ℕ). through begun (this ++ (z ∷ [])) ≡ stageOf (pageOf (set t cx (v .entry)) above (this ++ (z ∷ []))) (lift (v .coder) (r .settled ++ bytesOf v))) ep (again-stage cx p ec k);
             stored = eo ∙ ap₂ (λ (o : List ℕ) (a : ℕ). stores o a (bytesOf v)) (r .stored) (r .place) ∙ stores-append out₀ at₀ (r .settled) (bytesOf v);
@@ -192,7 +205,7 @@ module _ (width : ℕ) where
             ready = pelled-ready c (getD t cx 0) (eqb p (getD t cx 0 % 2)) v (r .ready) k;
             count = omega (arith, r .count, pelled-count c (getD t cx 0) (eqb p (getD t cx 0 % 2)) v k);
             passed = h;
-          }
+          })
 
     -- the numbers in the loop
     pub row-window : (t : List ℕ) (c : Coder) (w : Window) (out : List ℕ) (at x : ℕ) → ((y : ℕ) → getD above y 0 ≤ 1) → RowAt t c w out at x → (w .above < 32) × (w .this < 4)

@@ -88,7 +88,9 @@ pub fn write_row(row: &[u8], above: &[u8], width: usize, start: Run, out: &mut [
         let cx = 4 * window.above + window.this;
         let e = table.entries[cx];
         let v = put_pel(coder, e, p == e % 2);
-        table.entries[cx] = v.entry;
+        if v.shifts != 0 {
+            table.entries[cx] = v.entry;
+        }
         coder = v.coder;
         at = store::put_two(out, at, v.settled, v.first, v.second);
         window = window.slide(above, width, x, p);

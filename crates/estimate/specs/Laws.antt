@@ -1,16 +1,16 @@
 -- What holds of every row: its value is 1 to AC1 hex, and the next entries of a lawful entry are lawful. Assumes nothing.
 use mathlib.Core.Path.{_≡_, refl, sym, ap, _∙_, subst}
-use mathlib.Core.Logic.{_⊎_, inl, inr}
+use mathlib.Core.Logic.{_≢_, _⊎_, inl, inr}
 use Prim.Native.Nat.{ℕ, zero, suc, _+_, _-_, _*_, _/_, _%_, _≤_, _<_}
 use native.Mathlib.Omega.{arith}
 use native.Mathlib.Decide.{decLt}
-use mathlib.Core.Bool.{Bool, true, false, _&&_}
+use mathlib.Core.Bool.{Bool, true, false, _&&_, _||_}
 use mathlib.Core.List.{List, [], _∷_}
 use lib.ListN.{getD, set, length, replicate, getD-replicate, List·getD-eq-default}
 use lib.Seq.{getD-set-same, getD-set-other, set-out}
-use lib.Dec.{T, leb, ltb, eqb, leb→le, eqb→eq}
+use lib.Dec.{T, leb, ltb, eqb, leb→le, nltb→le}
 use borrow.Author.Tests.{eq-eqb, ne-eqb}
-use Rattle.ground.specs.Tests.{same?}
+use Rattle.ground.specs.Tests.{by-cond, neqb→ne, same?}
 use Rattle.ground.specs.Tables.{every, at-each, and-left, and-right}
 use Rattle.estimate.specs.Estimate.{rows, rowOf, rise, fall, flip, next, entryOf, indexOf, senseOf, fresh, LawfulEntry, LawfulTable}
 
@@ -40,7 +40,7 @@ rise-lawful e = omega arith
 
 flip-bit : (i s : ℕ) → s ≤ 1 → flip i s ≤ 1
 unfolding flip
-flip-bit i s h = Rattle.ground.specs.Tests.by-cond (λ (k : ℕ). k ≤ 1) (lib.Dec.eqb i 0) (1 - s) s (λ t. omega arith) (λ t. h)
+flip-bit i s h = by-cond (λ (k : ℕ). k ≤ 1) (lib.Dec.eqb i 0) (1 - s) s (λ t. omega arith) (λ t. h)
 
 fall-lawful : (e : ℕ) → LawfulEntry e → LawfulEntry (next false e)
 unfolding next
@@ -63,25 +63,22 @@ pub next-flip : (e : ℕ) → e / 2 ≡ 0 → 1 - e ≡ next false e
 unfolding next flip
 next-flip e h = rw (eq-eqb (e / 2) 0 h) (omega arith)
 
--- the falls of the entries, row by row
-abbrev pub falls : List ℕ
-falls = 0 ∷ 2 ∷ 2 ∷ 2 ∷ 2 ∷ 2 ∷ 2 ∷ 4 ∷ 4 ∷ 4 ∷ 4 ∷ 4 ∷ 4 ∷ 4 ∷ 4 ∷ 4 ∷ 4 ∷ 4 ∷ 4 ∷ 4 ∷ 4 ∷ 4 ∷ 4 ∷ 4 ∷ 6 ∷ 4 ∷ 6 ∷ 4 ∷ 6 ∷ 4 ∷ []
+-- no row falls below 0
+fall-small : (i : ℕ) → fall i ≤ i
+unfolding fall
+fall-small i =
+    by-cond (λ (f : ℕ). f ≤ i) (eqb i 0) _ _ (λ t. omega arith)
+    (λ z. let n : i ≢ 0 = neqb→ne i 0 z in
+    by-cond (λ (f : ℕ). f ≤ i) (ltb i 7) _ _ (λ t. some i n)
+    (λ t. let h : 7 ≤ i = nltb→le i 7 t in
+    by-cond (λ (f : ℕ). f ≤ i) ((eqb i 24 || eqb i 26) || eqb i 28) _ _ (λ y. omega arith) (λ y. omega arith)))
+  where
+    some : (i : ℕ) → i ≢ 0 → 1 ≤ i
+    some i n = omega arith
 
-fallsBy : ℕ → ℕ → Bool
-fallsBy i f = eqb f (2 * fall i) && leb (fall i) i
-
-all-falls : (i : ℕ) → i < 30 → T (fallsBy i (getD falls i 0))
-unfolding fallsBy fall
-all-falls i h = at-each fallsBy 0 falls tt i h
-
-pub next-fall : (e : ℕ) → LawfulEntry e → (e / 2 ≡ 0 → ⊥) → (getD falls (e / 2) 0 ≤ e) × (e - getD falls (e / 2) 0 ≡ next false e)
-unfolding next flip fallsBy
-next-fall e h k =
-    let i : ℕ = e / 2 in
-    let p : T (eqb (getD falls i 0) (2 * fall i) && leb (fall i) i) = all-falls i (omega arith) in
-    let f : getD falls i 0 ≡ 2 * fall i = eqb→eq _ _ (and-left (eqb (getD falls i 0) (2 * fall i)) (leb (fall i) i) p) in
-    let l : fall i ≤ i = leb→le _ _ (and-right (eqb (getD falls i 0) (2 * fall i)) (leb (fall i) i) p) in
-    (omega arith, rw (ne-eqb i 0 k) (omega arith))
+pub next-fall : (e f : ℕ) → f ≡ 2 * fall (e / 2) → (e / 2 ≡ 0 → ⊥) → (f ≤ e) × (e - f ≡ next false e)
+unfolding next flip
+next-fall e f h k = let l : fall (e / 2) ≤ e / 2 = fall-small (e / 2) in (omega arith, rw (ne-eqb (e / 2) 0 k) (omega arith))
 
 -- ---- tables
 pub fresh-entry : (cx : ℕ) → cx < 128 → (indexOf (getD fresh cx 0) ≡ 0) × (senseOf (getD fresh cx 0) ≡ 0)
@@ -100,7 +97,7 @@ fresh-lawful cx = go (decLt cx 128)
 pub set-lawful : (t : List ℕ) (cx e : ℕ) → LawfulTable t → LawfulEntry e → LawfulTable (set t cx e)
 set-lawful t cx e l h k = go (same? k cx) (decLt cx (length t))
   where
-    go : (k ≡ cx) ⊎ (mathlib.Core.Logic._≢_ k cx) → Dec (cx < length t) → LawfulEntry (getD (set t cx e) k 0)
+    go : (k ≡ cx) ⊎ (k ≢ cx) → Dec (cx < length t) → LawfulEntry (getD (set t cx e) k 0)
     go (inl y) (yes n) = rw (y, getD-set-same t cx e 0 n) h
     go (inl y) (no n) = rw (set-out t cx e (omega arith)) (l k)
     go (inr y) n = rw (getD-set-other t cx k e 0 y) (l k)

@@ -1,6 +1,7 @@
 // A table of learned entries, the thirty rows' values, and the next entries.
 ghost use mathlib.Core.Path.{_≡_};
-ghost use Rattle.estimate.specs.Estimate.{rowOf, next, fresh, LawfulEntry};
+ghost use Prim.Native.Nat.{_*_, _≤_};
+ghost use Rattle.estimate.specs.Estimate.{rowOf, fall, next, fresh, LawfulEntry};
 
 // One entry for each context, 2 × index + sense.
 #[repr(C)]
@@ -18,40 +19,6 @@ impl Table {
         }
     }
 }
-
-// How far an entry falls after an unexpected pel: twice the index's fall.
-const FALLS: [u8; 30] = [
-    0,
-    2,
-    2,
-    2,
-    2,
-    2,
-    2,
-    4,
-    4,
-    4,
-    4,
-    4,
-    4,
-    4,
-    4,
-    4,
-    4,
-    4,
-    4,
-    4,
-    4,
-    4,
-    4,
-    4,
-    6,
-    4,
-    6,
-    4,
-    6,
-    4,
-];
 
 // The value Q of an entry's row. A match, and not an array, so that the values lie in constant memory and no pel copies them.
 pub fn row_of(e: u8) -> u64
@@ -93,17 +60,37 @@ pub fn row_of(e: u8) -> u64
     }
 }
 
+// How far an entry falls after an unexpected pel: twice the index's fall.
+fn fall_of(i: u8) -> u8
+    requires { ⌜ 1 ≤ i ⌝ }
+    ensures { λ r. ⌜ r ≡ 2 * fall i ⌝ }
+{
+    if i < 7 {
+        return 2;
+    }
+    if i == 24 {
+        return 6;
+    }
+    if i == 26 {
+        return 6;
+    }
+    if i == 28 {
+        return 6;
+    }
+    4
+}
+
 // The entry after a renormalisation: on the expected pel the index rises, on the other it falls, and at row 0 the sense flips.
 pub fn next_entry(e: u8, expected: bool) -> u8
     requires { ⌜ LawfulEntry e ⌝ }
     ensures { λ r. ⌜ r ≡ next expected e ⌝ }
 {
-    let i = (e / 2) as usize;
+    let i = e / 2;
     if expected {
         return if i < 29 { e + 2 } else { e };
     }
     if i == 0 {
         return 1 - e;
     }
-    e - FALLS[i]
+    e - fall_of(i)
 }

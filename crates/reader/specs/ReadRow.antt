@@ -251,13 +251,13 @@ module _ (width : ℕ) (above t₀ : List ℕ) (c₀ : Coder) (code : List ℕ) 
           }
 
     -- the same, with the numbers as the code has them
-    pub read-turn : (cx′ p′ weight : ℕ) (w′ : Window) (at′ : ℕ) (good′ : Bool) → cx′ ≡ context above this x → ReadPel c v code (getD t cx′ 0) told → p′ ≡ pelOf (getD t cx′ 0 % 2) (told .expected)
+    pub read-turn : (cx′ p′ weight : ℕ) (t″ : List ℕ) (w′ : Window) (at′ : ℕ) (good′ : Bool) → t″ ≡ set t cx′ (u .entry) → cx′ ≡ context above this x → ReadPel c v code (getD t cx′ 0) told → p′ ≡ pelOf (getD t cx′ 0 % 2) (told .expected)
         → weight ≡ p′ * 2 ^ (7 - x % 8) → w′ .above ≡ (2 * w .above + getD above (x + 3) 0) % 32 → w′ .this ≡ (2 * w .this + p′) % 4
         → at′ ≡ at + u .settled → good′ ≡ (good && matches code at (bytesOf u))
-        → RowRead (set row (x / 8) (getD row (x / 8) 0 + weight)) (set t cx′ (u .entry)) (u .coder) w′ (told .view) at′ good′ (suc x)
-    read-turn cx′ p′ weight w′ at′ good′ ec k ep ew wa wt ea eg =
+        → RowRead (set row (x / 8) (getD row (x / 8) 0 + weight)) t″ (u .coder) w′ (told .view) at′ good′ (suc x)
+    read-turn cx′ p′ weight t″ w′ at′ good′ et ec k ep ew wa wt ea eg =
         let ec′ : cx′ ≡ cx = ec ∙ ap (context above this) (sym (length-pels row x)) in
         let ep′ : p′ ≡ p = ep ∙ ap (λ (z : ℕ). pelOf (getD t z 0 % 2) (told .expected)) ec′ in
         let r = read-again (subst (λ (z : ℕ). ReadPel c v code (getD t z 0) told) ec′ k) w′ at′ good′ wa (wt ∙ ap (λ (z : ℕ). (2 * w .this + z) % 4) ep′) ea eg in
-        subst (λ (z : ℕ). RowRead (set row (x / 8) (getD row (x / 8) 0 + z)) (set t cx′ (u .entry)) (u .coder) w′ (told .view) at′ good′ (suc x)) (sym (ew ∙ ap (λ (z : ℕ). z * 2 ^ (7 - x % 8)) ep′))
-        (subst (λ (z : ℕ). RowRead (set row (x / 8) (getD row (x / 8) 0 + p * 2 ^ (7 - x % 8))) (set t z (u .entry)) (u .coder) w′ (told .view) at′ good′ (suc x)) (sym ec′) r)
+        subst (λ (z : ℕ). RowRead (set row (x / 8) (getD row (x / 8) 0 + z)) t″ (u .coder) w′ (told .view) at′ good′ (suc x)) (sym (ew ∙ ap (λ (z : ℕ). z * 2 ^ (7 - x % 8)) ep′))
+        (subst (λ (z : List ℕ). RowRead (set row (x / 8) (getD row (x / 8) 0 + p * 2 ^ (7 - x % 8))) z (u .coder) w′ (told .view) at′ good′ (suc x)) (sym (et ∙ ap (λ (z : ℕ). set t z (u .entry)) ec′)) r)

@@ -218,10 +218,7 @@ pub fn pel_in_byte(p: u8, x: usize) -> u8
     requires { ⌜ p ≤ 1 ⌝ }
     ensures { λ r. ⌜ (r ≡ p * 2 ^ (7 - x % 8)) × (r ≤ 128) ⌝ }
 {
-    if p == 0 {
-        return 0;
-    }
-    1u8 << (7 - x % 8)
+    p << (7 - x % 8)
 }
 
 // One row, under the row above it.
@@ -244,7 +241,9 @@ pub fn read_row(code: &[u8], above: &[u8], width: usize, start: Reading) -> Line
         let told = read_pel(coder, view, code, e);
         let p = pel_told(e, told.expected);
         let v = told.pel;
-        table.entries[cx] = v.entry;
+        if v.shifts != 0 {
+            table.entries[cx] = v.entry;
+        }
         coder = v.coder;
         view = told.view;
         good = match_two(code, at, v.settled, v.first, v.second, good);

@@ -6,7 +6,7 @@ use native.Mathlib.Omega.{arith}
 use lib.ListN.{getD}
 use Rattle.template.specs.Pels.{pelsTo}
 use Rattle.template.specs.Window.{pels-bits, slid-context}
-use Rattle.band.specs.Rows.{RowAt, row-start, row-again, row-done, row-window, row-length}
+use Rattle.band.specs.Rows.{RowAt, pelled-table, row-start, row-again, row-done, row-window, row-length}
 use Rattle.band.proofs.write_row.Statement.{statement}
 use Rattle.band.proofs.write_row.Tie as tie
 use Rattle.band.proofs.write_row.Reads as reads
@@ -54,19 +54,19 @@ put-pel-requires c κs = let l = c .before .before .before .before .before .loop
 
 -- src/lib.rt:62:9
 element-write-table : tie.Need-element-write-table Inv-loop μ-loop
-element-write-table c = let a = c .before .before .before .before .before .before .before .before .before .before .before .before .before .args in let l = c .before .before .before .before .before .before .loop in let w = row-window _ _ _ _ _ _ _ _ _ _ _ _ _ (pels-bits (a .above .now) (a .width)) (l .inv) in omega arith
+element-write-table c = let a = c .before .before .before .before .before .before .before .before .before .before .before .before .before .before .before .args in let l = c .before .before .before .before .before .before .before .before .loop in let w = row-window _ _ _ _ _ _ _ _ _ _ _ _ _ (pels-bits (a .above .now) (a .width)) (l .inv) in omega arith
 
 -- src/lib.rt:64:9
 put-two-requires : tie.Need-put-two-requires Inv-loop μ-loop
-put-two-requires c κs = let l = c .before .before .before .before .before .before .before .before .loop in let q = c .before .before .before .before .before .before .before .before .before .before .before .before .before .before .before .pre in (omega (arith, l .inv .place, l .inv .few, l .inv .passed, q .0, q .7), c .before .before .put-pel .ensures .few)
+put-two-requires c κs = let l = c .before .before .before .before .before .before .before .before .before .before .loop in let q = c .before .before .before .before .before .before .before .before .before .before .before .before .before .before .before .before .before .pre in (omega (arith, l .inv .place, l .inv .few, l .inv .passed, q .0, q .7), c .before .before .before .before .put-pel .ensures .few)
 
 -- src/lib.rt:65:9
 slide-requires : tie.Need-slide-requires Inv-loop μ-loop
-slide-requires c κs = let a = c .before .before .before .before .before .before .before .before .before .before .before .before .before .before .before .before .before .before .args in let l = c .before .before .before .before .before .before .before .before .before .before .before .loop in let q = c .before .before .before .before .before .before .before .before .before .before .before .before .before .before .before .before .before .before .pre in let w = row-window _ _ _ _ _ _ _ _ _ _ _ _ _ (pels-bits (a .above .now) (a .width)) (l .inv) in (q .2, omega (arith, c .before .before .before .before .before .before .before .before .before .before .loop-test .taken, q .0), c .before .before .before .before .before .before .before .before .before .pel-at .ensures .1, w .0, w .1)
+slide-requires c κs = let a = c .before .before .before .before .before .before .before .before .before .before .before .before .before .before .before .before .before .before .before .before .args in let l = c .before .before .before .before .before .before .before .before .before .before .before .before .before .loop in let q = c .before .before .before .before .before .before .before .before .before .before .before .before .before .before .before .before .before .before .before .before .pre in let w = row-window _ _ _ _ _ _ _ _ _ _ _ _ _ (pels-bits (a .above .now) (a .width)) (l .inv) in (q .2, omega (arith, c .before .before .before .before .before .before .before .before .before .before .before .before .loop-test .taken, q .0), c .before .before .before .before .before .before .before .before .before .before .before .pel-at .ensures .1, w .0, w .1)
 
 -- src/lib.rt:66:9
 add-x : tie.Need-add-x Inv-loop μ-loop
-add-x c = omega (arith, c .before .before .before .before .before .before .before .before .before .before .before .loop-test .taken, c .before .before .before .before .before .before .before .before .before .before .before .before .before .before .before .before .before .before .before .pre .0)
+add-x c = omega (arith, c .before .before .before .before .before .before .before .before .before .before .before .before .before .loop-test .taken, c .before .before .before .before .before .before .before .before .before .before .before .before .before .before .before .before .before .before .before .before .before .pre .0)
 
 -- src/lib.rt:57:5
 loop-less : tie.Need-loop-less Inv-loop μ-loop
@@ -75,14 +75,15 @@ loop-less c = omega arith
 -- src/lib.rt:57:5
 loop-again : tie.Need-loop-again Inv-loop μ-loop
 loop-again c =
-    let a = c .before .before .before .before .before .before .before .before .before .before .before .before .before .before .before .before .before .before .before .args in
-    let l = c .before .before .before .before .before .before .before .before .before .before .before .before .loop in
-    let p = c .before .before .before .before .before .before .before .before .before .before .pel-at in
-    let v = c .before .before .before .before .before .before .put-pel in
+    let a = c .before .before .before .before .before .before .before .before .before .before .before .before .before .before .before .before .before .before .before .before .before .args in
+    let l = c .before .before .before .before .before .before .before .before .before .before .before .before .before .before .loop in
+    let p = c .before .before .before .before .before .before .before .before .before .before .before .before .pel-at in
+    let v = c .before .before .before .before .before .before .before .before .put-pel in
     let o = c .before .before .before .put-two in
     let s = c .slide in
+    let j = c .before .before .before .before .before .before .if1 in
     rw add-one
-    (row-again (a .width) (pelsTo (a .above .now) (a .width)) (a .row .now) _ _ _ _ _ _ _ _ _ (l .x) (v .result) (l .inv) (c .before .before .before .before .before .before .before .before .before .before .before .loop-test .taken) _ (p .result) (s .result) _ (o .result)
+    (row-again (a .width) (pelsTo (a .above .now) (a .width)) (a .row .now) _ _ _ _ _ _ _ _ _ (l .x) (v .result) (l .inv) (c .before .before .before .before .before .before .before .before .before .before .before .before .before .loop-test .taken) _ (p .result) (j .table .entries) (s .result) _ (o .result) (pelled-table _ (l .table) (j .table) _ _ (v .result) (v .ensures) (λ z. z .left) (j .came))
     (pels-bits (a .above .now) (a .width)) (slid-context _ _ _ _ (l .inv .slid)) (p .ensures .0) (v .ensures) (s .ensures .0) (s .ensures .1) (o .ensures .1) (o .ensures .0))
 
 -- src/lib.rt:48:1

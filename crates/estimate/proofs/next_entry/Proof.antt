@@ -5,9 +5,6 @@ use Rattle.estimate.specs.Laws.{next-rise, next-top, next-flip, next-fal
 use Rattle.estimate.proofs.next_entry.Statement.{statement}
 use Rattle.estimate.proofs.next_entry.Tie as tie
 
-cast-i : tie.Need-cast-i
-cast-i c = search needs
-
 add-result : tie.Need-add-result
 add-result c = search needs
 
@@ -23,25 +20,24 @@ sub-result c = search needs
 returns-3 : tie.Need-returns-3
 returns-3 c = rw (c .before .if1 .left) (next-flip (c .before .before .args .e) (c .if3 .taken))
 
-array-read-result : tie.Need-array-read-result
-array-read-result c = search needs
+fall-of-requires : tie.Need-fall-of-requires
+fall-of-requires c κs = omega arith
 
 sub-result-2 : tie.Need-sub-result-2
-sub-result-2 c = next-fall (c .before .before .args .e) (omega arith) (c .if3 .left) .0
+sub-result-2 c = next-fall (c .before .before .before .args .e) _ (c .fall-of .ensures) (c .before .if3 .left) .0
 
 returns-4 : tie.Need-returns-4
-returns-4 c = rw (c .before .if1 .left) (next-fall (c .before .before .args .e) (omega arith) (c .if3 .left) .1)
+returns-4 c = rw (c .before .before .if1 .left) (next-fall (c .before .before .before .args .e) _ (c .fall-of .ensures) (c .before .if3 .left) .1)
 
 pub next-entry-spec : {M : Type 1} → statement M
 next-entry-spec =
     tie.close
     (tie.spec
-    cast-i
     add-result
     returns
     returns-2
     sub-result
     returns-3
-    array-read-result
+    fall-of-requires
     sub-result-2
     returns-4)
