@@ -53,13 +53,15 @@ fn declares(line: &str, name: &str) -> bool {
         "const",
         "impl",
     ];
-    let words = line.split_whitespace().skip_while(|w| BEFORE.contains(w));
-    let first = words.clone().next().unwrap_or("");
-    let typed = words.clone().nth(1).is_some_and(|w| w.starts_with(':'));
-    let bare = first.trim_end_matches([',', ':', '{', ';']);
-    let named = bare.split('(').next() == Some(name);
-    named && (typed || line.split_whitespace().count() > words.count() || first.ends_with(','))
-        || named && first.ends_with(':')
+    let behind = line
+        .split_whitespace()
+        .position(|w| !BEFORE.contains(&w))
+        .unwrap_or(0);
+    let mut words = line.split_whitespace().skip(behind);
+    let first = words.next().unwrap_or("");
+    let typed = first.ends_with(':') || words.next().is_some_and(|w| w.starts_with(':'));
+    let bare = first.split(['(', ':', ';', ',']).next();
+    bare == Some(name) && (typed || behind > 0)
 }
 
 /// The source with that name: a crate's function, or the file before it.
