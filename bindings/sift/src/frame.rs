@@ -1,0 +1,242 @@
+//! The packed file around the codes, as docs/FORMAT.md describes it. All
+//! numbers are big-endian.
+
+use crate::crc::crc32;
+use crate::name;
+use crate::pbm::{row_bytes, MAX_WIDTH};
+use siftpebble::Key;
+use std::collections::HashSet;
+use std::ops::Range;
+
+const MAGIC: &[u8] = b"SIFT";
+const VERSION: u8 = 1;
+const END: &[u8] = b"END\n";
+const HEADER_BYTES: usize = 16;
+
+/// The most rows of a band.
+pub const MAX_ROWS: usize = 64;
+
+/// The most bytes of a band's code.
+pub const MAX_CODE: usize = 32_768;
+
+/// The most pages of a file.
+pub const MAX_PAGES: usize = 65_535;
+
+/// What a file says of all its pages.
+#[derive(Clone, Copy)]
+pub struct Header {
+    pub key: Key,
+    /// The rows of a band; the last one of a page may have fewer.
+    pub rows: usize,
+    pub pages: usize,
+}
+
+/// What a file says of one page, before its codes.
+pub struct Record {
+    pub name: String,
+    pub width: usize,
+    pub height: usize,
+    /// The bytes of each band's code.
+    pub lengths: Vec<usize>,
+    /// The CRC-32 of the page's packed rows.
+    pub sum: u32,
+}
+
+impl Record {
+    /// The bytes of the page's packed rows.
+    pub fn raw_bytes(&self) -> usize {
+        self.height * row_bytes(self.width)
+    }
+
+    /// The bytes of its codes.
+    pub fn code_bytes(&self) -> usize {
+        self.lengths.iter().sum()
+    }
+
+    /// The rows of each band, for bands of so many rows.
+    pub fn band_rows(&self, rows: usize) -> impl Iterator<Item = usize> + '_ {
+        (0..self.height)
+            .step_by(rows)
+            .map(move |y| rows.min(self.height - y))
+    }
+}
+
+/// A page as it lies in a file.
+pub struct Page {
+    pub record: Record,
+    /// Where its codes are.
+    pub codes: Range<usize>,
+}
+
+/// A file taken apart: all its pages, or those before the first fault.
+pub struct Frame {
+    pub header: Header,
+    pub pages: Vec<Page>,
+    pub faults: Vec<String>,
+}
+
+pub fn put_header(header: &Header, out: &mut Vec<u8>) {
+    let start = out.len();
+    out.extend_from_slice(MAGIC);
+    out.push(VERSION);
+    out.push(header.rows as u8);
+    put_16(header.key.school as usize, out);
+    put_16(header.key.class as usize, out);
+    put_16(header.pages, out);
+    let sum = crc32(&out[start..]);
+    out.extend_from_slice(&sum.to_be_bytes());
+}
+
+pub fn put_record(record: &Record, out: &mut Vec<u8>) {
+    let start = out.len();
+    put_16(record.width, out);
+    put_16(record.height, out);
+    out.push(record.name.len() as u8);
+    out.extend_from_slice(record.name.as_bytes());
+    for &length in &record.lengths {
+        put_16(length, out);
+    }
+    out.extend_from_slice(&record.sum.to_be_bytes());
+    let sum = crc32(&out[start..]);
+    out.extend_from_slice(&sum.to_be_bytes());
+}
+
+pub fn put_end(out: &mut Vec<u8>) {
+    out.extend_from_slice(END);
+}
+
+fn put_16(number: usize, out: &mut Vec<u8>) {
+    let number = u16::try_from(number).expect("a number within its limit");
+    out.extend_from_slice(&number.to_be_bytes());
+}
+
+/// Takes a file apart. Only a header that is wrong is an error by itself:
+/// what stands before a later fault can still be read.
+pub fn take_apart(bytes: &[u8]) -> Result<Frame, String> {
+    let mut frame = Frame {
+        header: header(bytes)?,
+        pages: Vec::new(),
+        faults: Vec::new(),
+    };
+    if let Err(fault) = pages(bytes, &frame.header, &mut frame.pages) {
+        frame.faults.push(fault);
+        let lost = frame.pages.len() + 2;
+        if lost <= frame.header.pages {
+            let last = frame.header.pages;
+            let why = "not read, since it is not known where they start";
+            frame.faults.push(format!("pages {lost} to {last}: {why}"));
+        }
+    }
+    Ok(frame)
+}
+
+fn header(bytes: &[u8]) -> Result<Header, String> {
+    if !bytes.starts_with(MAGIC) {
+        return Err("it is no packed file: it does not start with SIFT".into());
+    }
+    match bytes.get(MAGIC.len()) {
+        Some(&VERSION) | None => (),
+        Some(other) => return Err(format!("its format is version {other}, and 1 is known")),
+    }
+    let Some(bytes) = bytes.get(..HEADER_BYTES) else {
+        return Err("the file ends within its header".into());
+    };
+    if !sum_is_right(bytes) {
+        return Err("the header is damaged: its checksum differs".into());
+    }
+    let key = Key {
+        school: get_16(bytes, 6) as u64,
+        class: get_16(bytes, 8) as u64,
+    };
+    let (rows, pages) = (usize::from(bytes[5]), get_16(bytes, 10));
+    if key.school == 0 || key.class == 0 || pages == 0 || !(1..=MAX_ROWS).contains(&rows) {
+        return Err("the header has a number out of its limits".into());
+    }
+    Ok(Header { key, rows, pages })
+}
+
+/// Adds the pages as far as they are right.
+fn pages(bytes: &[u8], header: &Header, pages: &mut Vec<Page>) -> Result<(), String> {
+    let mut names = HashSet::new();
+    let mut at = HEADER_BYTES;
+    for number in 1..=header.pages {
+        let record = record(bytes, at, header.rows);
+        let (record, start) = record.map_err(|fault| format!("page {number}: {fault}"))?;
+        let name = &record.name;
+        if !names.insert(name.clone()) {
+            return Err(format!(
+                "page {number} ({name}): an earlier page has that name"
+            ));
+        }
+        at = start + record.code_bytes();
+        if at > bytes.len() {
+            let band = cut_band(&record.lengths, bytes.len() - start);
+            let fault = "the file ends within its code";
+            return Err(format!("page {number} ({name}), band {band}: {fault}"));
+        }
+        let codes = start..at;
+        pages.push(Page { record, codes });
+    }
+    match &bytes[at..] {
+        END => Ok(()),
+        rest if rest.starts_with(END) => Err("bytes follow the end mark".into()),
+        rest if END.starts_with(rest) => Err("the file ends before its end mark".into()),
+        _ => Err("there is no end mark after the last page".into()),
+    }
+}
+
+/// The number of the first band that does not lie in so many bytes.
+fn cut_band(lengths: &[usize], bytes: usize) -> usize {
+    let ends = lengths.iter().scan(0, |end, length| {
+        *end += length;
+        Some(*end)
+    });
+    1 + ends.take_while(|&end| end <= bytes).count()
+}
+
+/// The page record that starts here, and where it ends.
+fn record(bytes: &[u8], at: usize, rows: usize) -> Result<(Record, usize), String> {
+    let ends = || "the file ends within the page record".to_string();
+    let rest = &bytes[at..];
+    let fixed = rest.get(..5).ok_or_else(ends)?;
+    let (width, height) = (get_16(fixed, 0), get_16(fixed, 2));
+    let bands = 5 + usize::from(fixed[4]);
+    let sum = bands + 2 * height.div_ceil(rows);
+    let record = rest.get(..sum + 8).ok_or_else(ends)?;
+    if !sum_is_right(record) {
+        return Err("the page record is damaged: its checksum differs".into());
+    }
+    let name = std::str::from_utf8(&record[5..bands]);
+    let name = name.map_err(|_| "the page's name is not UTF-8")?;
+    name::check(name)?;
+    let lengths: Vec<_> = (bands..sum)
+        .step_by(2)
+        .map(|at| get_16(record, at))
+        .collect();
+    let lawful = |length: &usize| (1..=MAX_CODE).contains(length);
+    if !(1..=MAX_WIDTH).contains(&width) || height == 0 || !lengths.iter().all(lawful) {
+        return Err("the page record has a number out of its limits".into());
+    }
+    let page = Record {
+        name: name.to_string(),
+        width,
+        height,
+        lengths,
+        sum: get_32(record, sum),
+    };
+    Ok((page, at + record.len()))
+}
+
+/// Whether the last four bytes are the sum of those before them.
+fn sum_is_right(bytes: &[u8]) -> bool {
+    let (rest, sum) = bytes.split_at(bytes.len() - 4);
+    crc32(rest).to_be_bytes() == sum
+}
+
+fn get_16(bytes: &[u8], at: usize) -> usize {
+    usize::from(bytes[at]) << 8 | usize::from(bytes[at + 1])
+}
+
+fn get_32(bytes: &[u8], at: usize) -> u32 {
+    (get_16(bytes, at) as u32) << 16 | get_16(bytes, at + 2) as u32
+}
