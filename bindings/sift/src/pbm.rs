@@ -141,6 +141,14 @@ impl<'a> Pictures<'a> {
                 }
             }
         }
+        // a comment may follow the last pel too
+        while self
+            .rest
+            .first()
+            .is_some_and(|&byte| is_space(byte) || byte == b'#')
+        {
+            self.byte();
+        }
         Ok(rows)
     }
 }

@@ -7,7 +7,6 @@ use crate::frame::Header;
 use crate::output;
 use crate::reading::{Packed, Whole};
 use siftpebble::Desk;
-use std::fmt::Display;
 
 pub fn run(job: &Show) -> Result<(), Failure> {
     let packed = Packed::open(&job.input)?;
@@ -48,7 +47,11 @@ impl Total {
     fn lines(&self, file: usize) -> String {
         let last = saving(self.raw, self.code);
         let counts = [self.bands, self.raw, self.code];
-        let total = line("total", &self.pages, counts, self.shifts, &last, "");
+        let pages = match self.pages {
+            1 => "1 page".to_string(),
+            pages => format!("{pages} pages"),
+        };
+        let total = line("total", &pages, counts, self.shifts, &last, "");
         format!("{total}The file has {file} bytes, its frame among them.\n")
     }
 }
@@ -93,13 +96,12 @@ fn band_lines(page: &Whole, header: &Header) -> String {
 
 fn line(
     page: &str,
-    pels: &dyn Display,
+    pels: &str,
     [bands, raw, code]: [usize; 3],
     shifts: u64,
     saving: &str,
     name: &str,
 ) -> String {
-    let pels = pels.to_string();
     let line =
         format!("{page:>5} {pels:>12} {bands:>6} {raw:>10} {code:>10} {shifts:>10} {saving:>8}");
     match name {
