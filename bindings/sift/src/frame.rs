@@ -120,14 +120,24 @@ pub fn take_apart(bytes: &[u8]) -> Result<Frame, String> {
     };
     if let Err(fault) = pages(bytes, &frame.header, &mut frame.pages) {
         frame.faults.push(fault);
-        let lost = frame.pages.len() + 2;
-        if lost <= frame.header.pages {
-            let last = frame.header.pages;
-            let why = "not read, since it is not known where they start";
-            frame.faults.push(format!("pages {lost} to {last}: {why}"));
-        }
+        frame
+            .faults
+            .extend(lost(frame.pages.len() + 2, frame.header.pages));
     }
     Ok(frame)
+}
+
+/// What is said of the pages after one whose place or size is in doubt.
+fn lost(first: usize, last: usize) -> Option<String> {
+    match first {
+        _ if first > last => None,
+        _ if first == last => Some(format!(
+            "page {last}: not read, since it is not known where it starts"
+        )),
+        _ => Some(format!(
+            "pages {first} to {last}: not read, since it is not known where they start"
+        )),
+    }
 }
 
 fn header(bytes: &[u8]) -> Result<Header, String> {
