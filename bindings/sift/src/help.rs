@@ -1,6 +1,6 @@
 //! What `--help` and `--version` say, and the options of each job.
 
-use crate::args::Takes;
+use crate::words::Takes;
 
 pub const GENERAL: &str = "\
 sift packs black-and-white pages and reads them back, each class with its learned table.

@@ -18,7 +18,9 @@ mod pbm;
 mod progress;
 mod reading;
 mod show;
+mod taking;
 mod unpack;
+mod words;
 
 use args::Job;
 use failure::Failure;

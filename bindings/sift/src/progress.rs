@@ -9,6 +9,9 @@ const PATIENCE: Duration = Duration::from_millis(500);
 /// The time between two lines.
 const PAUSE: Duration = Duration::from_millis(100);
 
+/// The most letters of a page's number and name.
+const PAGE: usize = 50;
+
 pub struct Progress {
     /// Not where standard error goes into a file, nor with `--quiet`.
     wanted: bool,
@@ -33,7 +36,17 @@ impl Progress {
         }
         self.next = now + PAUSE;
         self.shown = true;
+        // a line that is too long could not be replaced
+        let page: String = page.chars().take(PAGE).collect();
         self.line(&format!("{page}: band {band} of {bands}"));
+    }
+
+    /// Takes the line away, before anything else is written.
+    pub fn clear(&mut self) {
+        if self.shown {
+            self.shown = false;
+            self.line("");
+        }
     }
 
     /// Replaces the line; a terminal that fails is no reason to stop a job.
@@ -45,8 +58,6 @@ impl Progress {
 
 impl Drop for Progress {
     fn drop(&mut self) {
-        if self.shown {
-            self.line("");
-        }
+        self.clear();
     }
 }

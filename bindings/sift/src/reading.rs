@@ -3,10 +3,11 @@
 
 use crate::crc::crc32;
 use crate::failure::Failure;
-use crate::frame::{self, Frame, Page, Record, MAX_ROWS};
+use crate::frame::{Record, MAX_ROWS};
 use crate::input::Input;
 use crate::pbm::MAX_WIDTH;
 use crate::progress::Progress;
+use crate::taking::{self, Frame, Page};
 use siftpebble::{front, Desk};
 
 /// A packed file and its bytes.
@@ -28,7 +29,7 @@ pub struct Whole<'a> {
 impl<'a> Packed<'a> {
     pub fn open(input: &'a Input) -> Result<Self, Failure> {
         let bytes = input.bytes()?;
-        let frame = frame::take_apart(&bytes).map_err(|fault| Failure::data(input, fault))?;
+        let frame = taking::take_apart(&bytes).map_err(|fault| Failure::data(input, fault))?;
         Ok(Packed {
             input,
             bytes,
@@ -49,7 +50,10 @@ impl<'a> Packed<'a> {
         let mut faults = Vec::new();
         for (index, page) in self.frame.pages.iter().enumerate() {
             match self.page(desk, index + 1, page, &mut progress) {
-                Ok(whole) => deliver(whole)?,
+                Ok(whole) => {
+                    progress.clear();
+                    deliver(whole)?;
+                }
                 Err(lines) => {
                     faults = lines;
                     faults.extend(self.not_read_after(index + 1));

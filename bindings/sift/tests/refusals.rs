@@ -118,6 +118,57 @@ fn two_pages_of_one_name() {
 }
 
 #[test]
+fn names_of_files_that_no_page_can_have() {
+    let dir = directory("file_names");
+    let two = b"P4 1 1 \0P4 1 1 \0";
+    let long = "x".repeat(255);
+    std::fs::write(dir.join(&long), two).expect("a file");
+    let words = ["pack", &long, "-o", "f"];
+    let line = format!(
+        "sift: {long}: page 2: a page cannot have the name \"{long}-2\": \
+         it has more than 255 bytes"
+    );
+    sift(&dir, &words, b"").refused(1, &[&line]);
+    std::fs::write(dir.join("a\\b"), two).expect("a file");
+    let line = "sift: a\\b: page 1: a page cannot have the name \"a\\\\b\": \
+                it has a '/' or a '\\', and would leave the directory";
+    sift(&dir, &["pack", "a\\b", "-o", "f"], b"").refused(1, &[line]);
+    assert_eq!(names(&dir), ["a\\b", &long]);
+}
+
+#[cfg(target_os = "linux")]
+#[test]
+fn a_name_that_is_no_text() {
+    use std::os::unix::ffi::OsStrExt;
+    let dir = directory("no_text");
+    let name = std::ffi::OsStr::from_bytes(b"\xFF.pbm");
+    std::fs::write(dir.join(name), b"P4 1 1 \0").expect("a file");
+    let output = std::process::Command::new(env!("CARGO_BIN_EXE_sift"))
+        .current_dir(&dir)
+        .args(["pack", "-o", "f"])
+        .arg(name)
+        .output()
+        .expect("the program");
+    assert_eq!(output.status.code(), Some(1));
+    let said = String::from_utf8(output.stderr).expect("text");
+    assert!(said.ends_with(": page 1: the name \"\\xFF.pbm\" is not UTF-8\n"));
+    assert!(!dir.join("f").exists());
+}
+
+#[test]
+fn as_many_pages_as_a_file_has() {
+    let dir = directory("pages_at_most");
+    let pages = b"P4\n1 1\n\x80".repeat(65_535);
+    let file = sift(&dir, &["pack", "-", "-o", "-"], &pages).fine();
+    let back = sift(&dir, &["unpack", "-", "-o", "-"], &file.stdout).fine();
+    assert!(back.stdout == pages);
+    let more = [&pages[..], b"P1 1 1 1"].concat();
+    let line = "sift: standard input: page 65536: a file has at most 65535 pages";
+    sift(&dir, &["pack", "-", "-o", "f"], &more).refused(1, &[line]);
+    assert!(names(&dir).is_empty());
+}
+
+#[test]
 fn inputs_that_cannot_be_read() {
     let dir = directory("inputs");
     for words in [
@@ -200,7 +251,7 @@ fn numbers_of_a_page_out_of_their_limits() {
 }
 
 #[test]
-fn names_that_are_refused() {
+fn names_that_are_kept() {
     let long = [b'x'; 255];
     for name in [&b"a"[..], b"...", b"a b.pbm", "\u{e9}".as_bytes(), &long] {
         let dir = directory("good_name");
@@ -210,6 +261,10 @@ fn names_that_are_refused() {
         assert_eq!(names(&dir.join("d")), [name]);
         assert_eq!(names(&dir), ["d"]);
     }
+}
+
+#[test]
+fn names_that_are_refused() {
     for (name, why) in [
         ("", "it is empty"),
         (".", "it is a directory's"),

@@ -26,58 +26,60 @@ fn help_and_version() {
     }
 }
 
+/// Wrong command lines, and what is said of them.
+const CASES: &[(&[&str], &str)] = &[
+    (&[], "nothing to do; see sift --help"),
+    (&["fold"], "there is no job \"fold\"; see sift --help"),
+    (&["pack"], "pack: no page is named"),
+    (&["pack", "a.pbm"], "pack: no output is named: -o FILE"),
+    (&["pack", "a.pbm", "-o"], "pack: no value follows -o"),
+    (
+        &["pack", "a.pbm", "-o", ""],
+        "pack: the name after -o is empty",
+    ),
+    (&["pack", "-o", "f"], "pack: no page is named"),
+    (
+        &["pack", "-", "-", "-o", "f"],
+        "pack: standard input can be read once only",
+    ),
+    (
+        &["pack", "a.pbm", "-o", "f", "-o", "g"],
+        "pack: -o is given twice",
+    ),
+    (
+        &["pack", "a.pbm", "-o", "f", "--force=1"],
+        "pack: --force takes no value",
+    ),
+    (
+        &["pack", "a.pbm", "-o", "f", "--plain"],
+        "pack: there is no option --plain",
+    ),
+    (&["pack", "a.pbm", "-of"], "pack: there is no option -of"),
+    (&["unpack"], "unpack: no file is named"),
+    (&["unpack", "f"], "unpack: no output is named: -o DIR"),
+    (
+        &["unpack", "f", "g", "-o", "d"],
+        "unpack: more than one file is named",
+    ),
+    (
+        &["unpack", "f", "-o", "d", "--rows", "3"],
+        "unpack: there is no option --rows",
+    ),
+    (&["show"], "show: no file is named"),
+    (&["show", "f", "-o", "d"], "show: there is no option -o"),
+    (&["look"], "look: no file is named"),
+    (&["look", "f", "g"], "look: more than one file is named"),
+    (
+        &["look", "f", "--bands"],
+        "look: there is no option --bands",
+    ),
+];
+
 #[test]
 fn wrong_command_lines() {
     let dir = directory("usage");
     std::fs::write(dir.join("a.pbm"), b"P4 1 1 \0").expect("a file");
-    let cases: &[(&[&str], &str)] = &[
-        (&[], "nothing to do; see sift --help"),
-        (&["fold"], "there is no job \"fold\"; see sift --help"),
-        (&["pack"], "pack: no page is named"),
-        (&["pack", "a.pbm"], "pack: no output is named: -o FILE"),
-        (&["pack", "a.pbm", "-o"], "pack: no value follows -o"),
-        (
-            &["pack", "a.pbm", "-o", ""],
-            "pack: the name after -o is empty",
-        ),
-        (&["pack", "-o", "f"], "pack: no page is named"),
-        (
-            &["pack", "-", "-", "-o", "f"],
-            "pack: standard input can be read once only",
-        ),
-        (
-            &["pack", "a.pbm", "-o", "f", "-o", "g"],
-            "pack: -o is given twice",
-        ),
-        (
-            &["pack", "a.pbm", "-o", "f", "--force=1"],
-            "pack: --force takes no value",
-        ),
-        (
-            &["pack", "a.pbm", "-o", "f", "--plain"],
-            "pack: there is no option --plain",
-        ),
-        (&["pack", "a.pbm", "-of"], "pack: there is no option -of"),
-        (&["unpack"], "unpack: no file is named"),
-        (&["unpack", "f"], "unpack: no output is named: -o DIR"),
-        (
-            &["unpack", "f", "g", "-o", "d"],
-            "unpack: more than one file is named",
-        ),
-        (
-            &["unpack", "f", "-o", "d", "--rows", "3"],
-            "unpack: there is no option --rows",
-        ),
-        (&["show"], "show: no file is named"),
-        (&["show", "f", "-o", "d"], "show: there is no option -o"),
-        (&["look"], "look: no file is named"),
-        (&["look", "f", "g"], "look: more than one file is named"),
-        (
-            &["look", "f", "--bands"],
-            "look: there is no option --bands",
-        ),
-    ];
-    for (words, said) in cases {
+    for (words, said) in CASES {
         let ran = sift(&dir, words, b"");
         let hint = said.split_once(':').map(|(job, _)| job);
         let line = match hint.filter(|job| words.first() == Some(job)) {
