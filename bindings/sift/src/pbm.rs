@@ -125,10 +125,6 @@ impl<'a> Pictures<'a> {
 
     /// Rows as P1 has them: digits, with or without white space.
     fn plain_rows(&mut self, width: usize, height: usize) -> Result<Vec<u8>, String> {
-        // no memory for more pels than there can be
-        if self.rest.len() < width * height {
-            return Err(format!("its {height} rows are not all there"));
-        }
         let bytes = row_bytes(width);
         let mut rows = vec![0; height * bytes];
         for row in rows.chunks_exact_mut(bytes) {
