@@ -152,6 +152,21 @@ impl Coder {
         let v = interval.code(q, expected);
         let k = v.shifts;
         let next = v.interval;
+        // most pels shift nothing: their way is the short one
+        if k == 0 {
+            let coder = Coder {
+                interval: next,
+                until: until,
+                held: held,
+            };
+            return Put {
+                coder: coder,
+                shifts: 0,
+                settled: 0,
+                first: 0,
+                second: 0,
+            };
+        }
         if k < until {
             let coder = Coder {
                 interval: next,

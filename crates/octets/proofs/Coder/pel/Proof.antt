@@ -2,7 +2,7 @@
 use mathlib.Core.Path.{_≡_, refl, sym, _∙_}
 use native.Mathlib.Omega.{arith}
 use borrow.Author.Needs.{needs}
-use Rattle.octets.specs.OnePel.{low-fits, pel-few, pel-bytes, Split, split, left-over}
+use Rattle.octets.specs.OnePel.{low-fits, pel-still, pel-few, pel-bytes, Split, split, left-over}
 use Rattle.octets.proofs.Coder.pel.Statement.{statement}
 use Rattle.octets.proofs.Coder.pel.Tie as tie
 use Rattle.octets.proofs.Coder.pel.Reads as reads
@@ -14,36 +14,39 @@ use Rattle.octets.proofs.settle.Reads as settle-reads
 code-requires : tie.Need-code-requires
 code-requires c κs = let f = c .before .pre .0 in omega (arith, f .wide, f .rest .fit .narrow, low-fits _ (f .rest .fit))
 
--- src/lib.rt:103:56
-sub-t12 : tie.Need-sub-t12
-sub-t12 c = search needs
-
--- src/lib.rt:104:13
 returns : tie.Need-returns
 returns c =
     let a = c .before .before .before .before .args in
     let v = c .before .before .code in
-    (rw (v .ensures .0, v .ensures .1) (pel-few (a .self) (a .q) (a .expected) (c .before .before .before .before .pre .0) (omega arith) (omega arith) (rw (v .ensures .1) at (c .if1 .taken))), omega arith, v .ensures .1)
+    let z = sym (v .ensures .1) ∙ c .if1 .taken in
+    (rw (v .ensures .0) (pel-still (a .self) (a .q) (a .expected) (c .before .before .before .before .pre .0) (omega arith) (omega arith) z), omega arith, sym z)
 
--- src/lib.rt:106:9
-settle-requires : tie.Need-settle-requires
-settle-requires c κs =
-    let a = c .before .before .before .before .args in
-    let v = c .before .before .code in
-    let h = rw (v .ensures .1) at (c .if1 .left) in
-    let o = left-over (a .self) (a .q) (a .expected) (c .before .before .before .before .pre .0) (omega arith) (omega arith) h in
-    let s = split (a .self) (a .q) (a .expected) (c .before .before .before .before .pre .0) (omega arith) (omega arith) h in
-    (c .before .before .before .before .pre .0 .rest .fit .octet, rw (v .ensures .1) o, rw (v .ensures .0, v .ensures .1) (s .short))
+sub-t13 : tie.Need-sub-t13
+sub-t13 c = search needs
 
--- src/lib.rt:92:5
 returns-2 : tie.Need-returns-2
 returns-2 c =
     let a = c .before .before .before .before .before .args in
     let v = c .before .before .before .code in
-    let h = rw (v .ensures .1) at (c .before .if1 .left) in
+    (rw (v .ensures .0, v .ensures .1) (pel-few (a .self) (a .q) (a .expected) (c .before .before .before .before .before .pre .0) (omega arith) (omega arith) (rw (v .ensures .1) at (c .if2 .taken))), omega arith, v .ensures .1)
+
+settle-requires : tie.Need-settle-requires
+settle-requires c κs =
+    let a = c .before .before .before .before .before .args in
+    let v = c .before .before .before .code in
+    let h = rw (v .ensures .1) at (c .if2 .left) in
+    let o = left-over (a .self) (a .q) (a .expected) (c .before .before .before .before .before .pre .0) (omega arith) (omega arith) h in
     let s = split (a .self) (a .q) (a .expected) (c .before .before .before .before .before .pre .0) (omega arith) (omega arith) h in
+    (c .before .before .before .before .before .pre .0 .rest .fit .octet, rw (v .ensures .1) o, rw (v .ensures .0, v .ensures .1) (s .short))
+
+returns-3 : tie.Need-returns-3
+returns-3 c =
+    let a = c .before .before .before .before .before .before .args in
+    let v = c .before .before .before .before .code in
+    let h = rw (v .ensures .1) at (c .before .if2 .left) in
+    let s = split (a .self) (a .q) (a .expected) (c .before .before .before .before .before .before .pre .0) (omega arith) (omega arith) h in
     let t = rw (v .ensures .0, v .ensures .1) at (c .settle .ensures .2) in
-    (pel-bytes (a .self) (a .q) (a .expected) (c .before .before .before .before .before .pre .0) (omega arith) (omega arith) h ∙ t _ _ _ (s .low) (s .width) (s .count), c .settle .ensures .1, c .settle .ensures .0 ∙ v .ensures .1)
+    (pel-bytes (a .self) (a .q) (a .expected) (c .before .before .before .before .before .before .pre .0) (omega arith) (omega arith) h ∙ t _ _ _ (s .low) (s .width) (s .count), c .settle .ensures .1, c .settle .ensures .0 ∙ v .ensures .1)
 
 pub pel-spec : {M : Type 1} → statement M
-pel-spec = tie.close (tie.spec code-requires sub-t12 returns settle-requires returns-2)
+pel-spec = tie.close (tie.spec code-requires returns sub-t13 returns-2 settle-requires returns-3)
