@@ -2,23 +2,21 @@
 -- All by going back from the end, one small step at a time; fractions are compared multiplied out. Assumes nothing.
 use mathlib.Core.Path.{_≡_, refl, sym, ap, _∙_, subst, subst₂}
 use mathlib.Core.Logic.{_≢_, _⊎_, inl, inr}
-use Prim.Native.Nat.{ℕ, zero, suc, pred, _+_, _-_, _*_, _/_, _%_, _^_, _≤_, _<_, min}
-use native.Mathlib.Nat.{mul-le-mul-right, lt-of-mul-lt-mul-right, add-zero}
+use Prim.Native.Nat.{ℕ, zero, suc, _+_, _-_, _*_, _^_, _≤_, _<_}
+use native.Mathlib.Nat.{mul-le-mul-right, lt-of-mul-lt-mul-right}
 use native.Mathlib.Omega.{arith}
-use mathlib.Core.Bool.{Bool, true, false, cond, not}
 use mathlib.Core.List.{List, [], _∷_, _++_, append-assoc}
-use lib.ListN.{drop, take, length}
-use lib.Dec.{T, ltb, leb, eqb, ltb→lt, nltb→le, eqb→eq}
-use lib.Pow.{pow-add, pow-pos}
-use Rattle.ground.specs.Tests.{by-cond, either, same?, neqb→ne}
+use lib.ListN.{take}
+use lib.Dec.{T, ltb, eqb, ltb→lt, eqb→eq}
+use lib.Pow.{pow-add}
+use Rattle.ground.specs.Tests.{by-cond, same?, neqb→ne}
 use Rattle.octets.specs.Unit.{unit, unit-pred, unit-zero, unit-eight, unit-seven, unit-pos}
-use Rattle.interval.specs.declared.Interval.{Interval}
-use Rattle.interval.specs.Interval.{Decision, whole, upperPart, lowerPart, partOf, doubled, grown, coded}
-use Rattle.octets.specs.Octets.{Registers, start, bits, carried, byte, due, double, shifts, part, pel, run, pad, pads, lastByte, cover, finish, bytes}
-use Rattle.octets.specs.Fit.{upper, lower, by-part, Fit, Rest, Ready, Made, Byte, eight, seven, made, fit-byte, byte-some, Sized, AllSized, ready-run, ready-start, bits-ff, bits-else, fit-double, rest-shift, rest-part, ready-pel}
+use Rattle.interval.specs.Interval.{Decision, whole}
+use Rattle.octets.specs.Octets.{Registers, bits, carried, byte, due, double, shifts, part, pel, run, pad, pads, lastByte, cover, finish, bytes}
+use Rattle.octets.specs.Fit.{upper, lower, by-part, Fit, Rest, Ready, Made, Byte, eight, seven, made, fit-byte, Sized, AllSized, bits-ff, bits-else, fit-double, rest-shift, rest-part, ready-pel}
 use Rattle.octets.specs.Ending.{Filled, filled, fit-pad, rest-last, seven-bits}
 use Rattle.exact.specs.Value.{value, places, byte-until}
-use Rattle.exact.specs.End.{Tail, tail-last, tail-start, cover-clear}
+use Rattle.exact.specs.End.{Tail, tail-last, tail-start}
 
 -- every byte is one, and a byte after FF is at most 8F
 abbrev pub Lawful : ℕ → List ℕ → Type 0

@@ -1,19 +1,18 @@
 -- What is said of every written code: its bytes, its value, its length. Assumes nothing.
 use mathlib.Core.Path.{_≡_, refl, sym, ap, _∙_, subst, subst₂}
 use mathlib.Core.Logic.{_≢_, _⊎_, inl, inr}
-use Prim.Native.Nat.{ℕ, zero, suc, pred, _+_, _-_, _*_, _/_, _%_, _^_, _≤_, _<_, min}
-use native.Mathlib.Nat.{lt-of-mul-lt-mul-right, eq-of-mul-eq-mul-right, mul-assoc}
+use Prim.Native.Nat.{ℕ, _+_, _-_, _*_, _/_, _^_, _≤_, _<_}
+use native.Mathlib.Nat.{lt-of-mul-lt-mul-right}
 use native.Mathlib.Omega.{arith}
-use mathlib.Core.List.{List, [], _∷_, _++_, append-assoc}
-use lib.ListN.{drop, take, length}
-use lib.Pow.{pow-add, pow-pos}
+use mathlib.Core.List.{List, [], _∷_}
+use lib.ListN.{drop, length}
+use lib.Pow.{pow-add}
 use Rattle.ground.specs.Tests.{same?}
 use Rattle.octets.specs.Unit.{unit}
-use Rattle.interval.specs.declared.Interval.{Interval}
-use Rattle.interval.specs.Interval.{Decision, whole, upperPart, lowerPart, partOf, doubled, grown}
+use Rattle.interval.specs.Interval.{Decision, whole}
 use Rattle.octets.specs.Octets.{Registers, start, bits, run, finish, bytes, code}
 use Rattle.octets.specs.Fit.{Ready, AllSized, ready-run, ready-start, bits-ff, bits-else}
-use Rattle.exact.specs.Value.{value, places, Same, same-run, same-start, exact}
+use Rattle.exact.specs.Value.{value, places, same-run, same-start, exact}
 use Rattle.exact.specs.End.{value-run}
 use Rattle.exact.specs.Ahead.{Ahead, Going, going-run, going-end, Lawful, need, head-le}
 

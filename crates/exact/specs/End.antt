@@ -1,22 +1,18 @@
 -- The end of a code: at most four bytes, after which nothing is left in c; so the value of the code is the final low end. Assumes nothing.
 use mathlib.Core.Path.{_≡_, refl, sym, ap, _∙_, subst, subst₂}
-use mathlib.Core.Logic.{_≢_, _⊎_, inl, inr}
-use Prim.Native.Nat.{ℕ, zero, suc, pred, _+_, _-_, _*_, _/_, _%_, _^_, _≤_, _<_, _∣_, min}
-use native.Mathlib.Nat.{pow-succ', pow-suc, mul-assoc, mul-one, mul-comm, add-zero, add-suc, dvd-trans, dvd-add, dvd-add-iff-right, dvd-mul-left-of-dvd, dvd-mul-right, dvd-refl, mul-dvd-mul-left, mod-eq-zero-of-dvd, mod-eq-of-lt, pos-of-ne-zero}
+use Prim.Native.Nat.{ℕ, zero, suc, _+_, _-_, _*_, _^_, _≤_, _<_, _∣_, min}
+use native.Mathlib.Nat.{pow-succ', mul-assoc, mul-one, add-zero, dvd-trans, dvd-add, dvd-add-iff-right, dvd-mul-left-of-dvd, dvd-mul-right, dvd-refl, mul-dvd-mul-left, mod-eq-zero-of-dvd, mod-eq-of-lt}
 use native.Mathlib.Omega.{arith}
-use mathlib.Core.Bool.{Bool, true, false, cond, not}
-use mathlib.Core.List.{List, [], _∷_, _++_, append-assoc}
-use lib.ListN.{drop}
-use lib.Dec.{T, ltb, leb, eqb, ltb→lt, nltb→le, eqb→eq}
+use mathlib.Core.List.{List}
+use lib.Dec.{eqb, eqb→eq}
 use lib.Pow.{pow-add}
-use Rattle.ground.specs.Tests.{by-cond, either, same?, neqb→ne}
-use Rattle.octets.specs.Unit.{unit, unit-pred, unit-zero, unit-eight, unit-seven, unit-pos}
-use Rattle.interval.specs.declared.Interval.{Interval}
-use Rattle.interval.specs.Interval.{Decision, whole, upperPart, lowerPart, partOf, doubled, grown, coded}
-use Rattle.octets.specs.Octets.{Registers, start, bits, carried, byte, run, pad, pads, lastByte, cover, finish, bytes}
-use Rattle.octets.specs.Fit.{Fit, Rest, Ready, Made, Byte, eight, seven, made, fit-byte, byte-some, Sized, AllSized, ready-run, ready-start}
+use Rattle.ground.specs.Tests.{by-cond}
+use Rattle.octets.specs.Unit.{unit}
+use Rattle.interval.specs.Interval.{Decision, whole}
+use Rattle.octets.specs.Octets.{Registers, start, byte, run, pad, pads, lastByte, cover, finish, bytes}
+use Rattle.octets.specs.Fit.{Fit, Rest, Byte, eight, seven, made, AllSized, ready-run, ready-start}
 use Rattle.octets.specs.Ending.{Filled, filled, fit-pad, rest-last, seven-bits}
-use Rattle.exact.specs.Value.{value, places, Agree, agree-pad, agree-byte, byte-until, Same, same-run, same-start, exact}
+use Rattle.exact.specs.Value.{value, places, Agree, agree-pad, agree-byte, byte-until, same-run, same-start, exact}
 
 agree-pads : (n : ℕ) (w : Registers) (low m : ℕ) → Fit w → w .until ≡ n → Agree w low m → Agree (pads n w) (low * 2 ^ n) (m + n)
 unfolding pads

@@ -1,23 +1,20 @@
 -- The reader: what it sees of a code, beside the writer; on a written code it takes each decision as it was written. Assumes nothing.
-use mathlib.Core.Path.{_≡_, refl, sym, ap, ap₂, _∙_, subst, subst₂}
-use mathlib.Core.Logic.{_≢_, _⊎_, inl, inr}
-use Prim.Native.Nat.{ℕ, zero, suc, pred, _+_, _-_, _*_, _/_, _%_, _^_, _≤_, _<_, min}
-use native.Mathlib.Nat.{mul-le-mul-right, lt-of-mul-lt-mul-right, le-of-mul-le-mul-right, add-zero, pow-succ'}
+use mathlib.Core.Path.{_≡_, refl, sym, ap, _∙_, subst, subst₂}
+use Prim.Native.Nat.{ℕ, zero, suc, _+_, _-_, _*_, _%_, _^_, _≤_, _<_}
+use native.Mathlib.Nat.{lt-of-mul-lt-mul-right, add-zero, pow-succ'}
 use native.Mathlib.Omega.{arith}
 use mathlib.Core.Bool.{Bool, true, false, cond, not}
 use mathlib.Core.List.{List, [], _∷_, _++_, append-assoc}
 use lib.ListN.{drop, take, length, getD}
-use lib.Dec.{T, ltb, leb, eqb, ltb→lt, nltb→le, eqb→eq, lt→ltb}
+use lib.Dec.{T, ltb, eqb, ltb→lt, eqb→eq, lt→ltb}
 use lib.Pow.{pow-add, pow-pos}
-use Rattle.ground.specs.Tests.{by-cond, by-cond₂, either, same?, neqb→ne, if-eq, if-ne, if-lt, if-ge}
+use Rattle.ground.specs.Bools.{is-true}
+use Rattle.ground.specs.Tests.{by-cond, by-cond₂, neqb→ne}
 use Rattle.octets.specs.Unit.{unit, unit-pred, unit-zero, unit-eight, unit-seven, unit-pos}
-use Rattle.interval.specs.Interval.{Decision}
-use Rattle.octets.specs.Octets.{Registers, start, bits, carried, byte, due, double, shifts, part, pel, run, finish, bytes}
-use Rattle.octets.specs.Fit.{upper, lower, Fit, Rest, Ready, Made, Byte, eight, seven, made, Sized, AllSized, ready-run, ready-start, bits-ff, bits-else, fit-double, rest-shift, rest-part, ready-pel, due-width}
+use Rattle.octets.specs.Octets.{Registers, start, bits, carried, byte, due, double, shifts}
+use Rattle.octets.specs.Fit.{upper, lower, Fit, Rest, Byte, eight, seven, made, fit-double, rest-shift}
 use Rattle.exact.specs.Value.{value, places, byte-until, places-snoc, value-snoc}
-use Rattle.octets.specs.Ending.{seven-bits}
-use Rattle.exact.specs.Ahead.{Ahead, Going, going-run, going-end, going-shifts, byte-settled}
-use Rattle.exact.specs.Code.{going-start, coded, Coded, code-bytes}
+use Rattle.exact.specs.Ahead.{Ahead, Going, going-shifts, byte-settled}
 
 -- width: the width. x: the bits of the code that are read, less the low end; look: how many of them lie past the low end's last bit.
 -- last: the byte last read. unread: the bytes to come.
@@ -297,29 +294,6 @@ sees-supplied r w all S f i g =
           look = omega (arith, Rattle.exact.specs.Ahead.bits-few (r .last));
         }
 
--- of any bytes at all: the look-ahead stays below 8, and x in 32 bits
-pub record Small (r : Sight) : Type 0 where
-  pub look : r .look ≤ 7
-  pub x : r .x < 2 ^ 32
-
-pub small-nearer : (r : Sight) → Small r → Small (nearer (supplied r))
-unfolding supplied
-small-nearer r h =
-    by-cond (λ (v : Sight). Small (nearer v)) (eqb (r .look) 0) (more r) r
-    (λ t. record {
-      look = omega (arith, eqb→eq (r .look) 0 t, Rattle.exact.specs.Ahead.bits-few (r .last));
-      x = native.Mathlib.Nat.mod-lt (r .x * 2 ^ bits (r .last) + getD (r .unread) 0 0) (pow-pos 32);
-    })
-    (λ t. record { look = omega (arith, h .look); x = h .x })
-
-pub small-seek : (n : ℕ) (r : Sight) → Small r → Small (seek n r)
-unfolding seek
-small-seek zero r h = h
-small-seek (suc n) r h = by-cond Small (ltb (r .width) 4096) (seek n (nearer (supplied r))) r (λ t. small-seek n (nearer (supplied r)) (small-nearer r h)) (λ t. h)
-
-pub small-taken : (q : ℕ) (e : Bool) (r : Sight) → Small r → Small (taken q e r)
-small-taken q e r h = by-cond Small e (above q r) (under q r) (λ t. record { look = h .look; x = omega (arith, h .x) }) (λ t. record { look = h .look; x = h .x })
-
 sees-shift : (r : Sight) (w : Registers) (all : List ℕ) (S : ℕ) → Rest w → T (ltb (w .interval .width) 4096) → Going (due (double w)) all S → Sees r w all
     → Sees (nearer (supplied r)) (due (double w)) all
 sees-shift r w all S f t i g =
@@ -339,10 +313,6 @@ sees-shifts (suc n) r w all S f g =
     (λ t i. g))
 
 -- ---- the whole
-is-true : (b : Bool) → T b → b ≡ true
-is-true true t = refl
-is-true false t = absurd t
-
 is-false : (b : Bool) → T b → not b ≡ false
 is-false true t = refl
 is-false false t = absurd t
@@ -353,7 +323,7 @@ decide-true q r h = is-true _ (lib.Arith.le→nltb (r .x) (q * 2 ^ r .look) h)
 
 pub decide-false : (q : ℕ) (r : Sight) → r .x < q * 2 ^ r .look → decide q r ≡ false
 unfolding decide
-decide-false q r h = is-false (ltb (r .x) (q * 2 ^ r .look)) (lt→ltb (r .x) (q * 2 ^ r .look) h)
+decide-false q r h = ap not (is-true (ltb (r .x) (q * 2 ^ r .look)) (lt→ltb (r .x) (q * 2 ^ r .look) h))
 
 zero-bits : bits 0 ≡ 8
 unfolding bits

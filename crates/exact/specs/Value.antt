@@ -1,19 +1,17 @@
 -- The value of a code, the interval in exact arithmetic, and I4: the value of what is written is the final low end. Assumes nothing.
-use mathlib.Core.Path.{_≡_, refl, sym, ap, _∙_, subst, subst₂}
-use mathlib.Core.Logic.{_≢_, _⊎_, inl, inr}
-use Prim.Native.Nat.{ℕ, zero, suc, pred, _+_, _-_, _*_, _/_, _%_, _^_, _≤_, _<_, _∣_}
-use native.Mathlib.Nat.{pow-succ', mul-assoc, mul-one}
+use mathlib.Core.Path.{_≡_, refl, ap, _∙_, subst}
+use Prim.Native.Nat.{ℕ, zero, suc, _+_, _-_, _*_, _^_}
 use native.Mathlib.Omega.{arith}
-use mathlib.Core.Bool.{Bool, true, false, cond, not}
+use mathlib.Core.Bool.{cond}
 use mathlib.Core.List.{List, [], _∷_, _++_, append-assoc}
-use lib.Dec.{T, ltb, leb, eqb, ltb→lt, nltb→le, eqb→eq}
+use lib.Dec.{T, ltb, eqb, ltb→lt, eqb→eq}
 use lib.Pow.{pow-add}
-use Rattle.ground.specs.Tests.{by-cond, by-cond₂, either, same?, if-eq, if-ne, if-lt, if-ge}
-use Rattle.octets.specs.Unit.{unit, unit-pred, unit-zero, unit-eight, unit-seven, unit-pos}
+use Rattle.ground.specs.Tests.{by-cond, by-cond₂}
+use Rattle.octets.specs.Unit.{unit, unit-pred, unit-zero, unit-eight, unit-seven}
 use Rattle.interval.specs.declared.Interval.{Interval}
 use Rattle.interval.specs.Interval.{Decision, whole, upperPart, lowerPart, partOf, doubled, grown, coded}
-use Rattle.octets.specs.Octets.{Registers, at, start, bits, carried, left, byte, due, double, shifts, part, pel, run, pad, pads, lastByte, cover, finish, bytes}
-use Rattle.octets.specs.Fit.{upper, lower, by-part, Fit, Rest, Ready, Made, Byte, eight, seven, made, due-width, due-count, rest-shift, rest-part, ready-pel, Sized, AllSized}
+use Rattle.octets.specs.Octets.{Registers, at, start, bits, carried, byte, due, double, shifts, part, pel, run, pad, bytes}
+use Rattle.octets.specs.Fit.{Fit, Rest, Ready, Byte, eight, seven, made, due-width, due-count, rest-shift, rest-part, ready-pel, AllSized}
 
 -- the bits that bytes bring after the byte b
 unfoldable pub places : ℕ → List ℕ → ℕ

@@ -1,11 +1,9 @@
 -- What a test chooses, shown by the test. Assumes nothing.
-use mathlib.Core.Path.{_≡_, refl, sym, ap, _∙_}
+use mathlib.Core.Path.{_≡_, refl}
 use mathlib.Core.Logic.{_≢_, _⊎_, inl, inr}
-use Prim.Native.Nat.{ℕ, zero, suc, pred, _+_, _-_, _*_, _/_, _%_, _^_, _≤_, _<_}
-use native.Mathlib.Nat.{pow-suc, pow-succ'}
-use native.Mathlib.Omega.{arith}
+use Prim.Native.Nat.{ℕ, _≤_, _<_}
 use mathlib.Core.Bool.{Bool, true, false, cond, not}
-use lib.Dec.{T, ltb, leb, eqb, eqb→eq, eqb-refl, not-T, ltb→lt, nltb→le}
+use lib.Dec.{T, ltb, eqb, eqb→eq, eqb-refl, not-T}
 
 pub by-cond : {A : Type 0} (P : A → Type 0) (b : Bool) (x y : A) → (T b → P x) → (T (not b) → P y) → P (cond b x y)
 by-cond P true x y f g = f tt
@@ -55,11 +53,3 @@ if-ge m n x y h = cond-false (ltb m n) x y (lib.Arith.le→nltb m n h)
 pub by-cond₂ : {A B : Type 0} (P : A → B → Type 0) (b : Bool) (x y : A) (x′ y′ : B) → (T b → P x x′) → (T (not b) → P y y′) → P (cond b x y) (cond b x′ y′)
 by-cond₂ P true x y x′ y′ f g = f tt
 by-cond₂ P false x y x′ y′ f g = g tt
-
-pub is-true : (b : Bool) → T b → b ≡ true
-is-true true t = refl
-is-true false t = absurd t
-
-pub is-false : (b : Bool) → T (not b) → b ≡ false
-is-false true t = absurd t
-is-false false t = refl

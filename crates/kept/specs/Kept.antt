@@ -19,7 +19,7 @@ use Rattle.desk.specs.Places.{zeroTable, unusedPage, freePlace, emptyDesk, noPa
 use Rattle.desk.specs.Lawful.{all, any, apart, lawfulPage, lawfulPlace, lawful}
 use Rattle.desk.specs.Refusals.{refusal}
 use Rattle.desk.specs.Calls.{refused, done, unless, openTests, openDesk, openSpec, leaveTests, closeDesk, closeSpec, abandonDesk, abandonSpec, dropTests, dropSpec, lookTests, lookSpec, bandOf, writeTests, bandDesk, writeSpec, readTests, readSpec, readLent, ReadOutcome}
-use Rattle.kept.specs.Lists.{orElse}
+use Rattle.turns.specs.Base.{orElse}
 use Rattle.kept.specs.View.{sameKey}
 use Rattle.kept.specs.Sound.{Sound, sound-lawful}
 use Rattle.kept.specs.Stored.{cellOf, Stored, stored-sound, stored-others, page-found, page-there, table-found, table-there, noTable}

@@ -18,8 +18,10 @@ use Rattle.desk.specs.Lawful.{all, lawfulPage, lawfulPlace}
 use Rattle.desk.specs.Calls.{learnedPlace, closeDesk, abandonDesk}
 use Rattle.band.specs.Band.{white}
 use Rattle.desk.specs.Places.{zeroTable}
-use Rattle.kept.specs.Lists.{no-way, both, pick, pick-passes, pick-all, orElse, found-given, deskOf, page-at, place-at, page-put, place-put, all-first, not-true}
-use Rattle.kept.specs.View.{sameKey, K, pageKey, placeKey, viewPage, viewPlace, Shelf, shelves, page-read, mapped, pages-first, places-first, pages-free, places-free, page-free, place-free, table-read, table-first}
+use Rattle.kept.specs.Lists.{pick, pick-passes, pick-all, found-given, deskOf, page-at, place-at, page-put, place-put, all-first}
+use Rattle.turns.specs.Base.{orElse}
+use Rattle.ground.specs.Bools.{no-way, both, not-true, and-false}
+use Rattle.kept.specs.View.{sameKey, K, pageKey, placeKey, viewPage, viewPlace, Shelf, shelves, page-read, mapped, pages-first, places-first, pages-free, places-free, page-free, place-free, table-read, table-first, given-mapped}
 use Rattle.kept.specs.Sound.{Sound}
 
 -- what stands under a key: the learned table or none, the open page or none
@@ -57,10 +59,6 @@ unfolding lawfulPlace freePlace zeroTable all
 free-lawful = refl
 
 -- ---- what the desk finds, read from the cell
-given-mapped : {A B : Type 0} (f : A → B) (o : Option A) → given (mapped f o) ≡ given o
-given-mapped f none = refl
-given-mapped f (some a) = refl
-
 abbrev pub noTable : Table
 noTable = record { entries = [] }
 
@@ -175,21 +173,17 @@ module _ (d : Desk) (s : Sound d) (k : Key) where
   unfolding shelves slotStore
   store-by d′ y p q = λ i. record { pageSlots = p i; classPlaces = q i }
 
-  not-both : (b : Bool) → (b && false) ≡ false
-  not-both true = refl
-  not-both false = refl
-
   room-open : (y : Cell Table Page) → given (x .page) ≡ true → noSlot K Table Page (shelves d) k y ≡ false
   unfolding noSlot
   room-open y g = rw g
 
   room-none : (y : Cell Table Page) → y .page ≡ none → noSlot K Table Page (shelves d) k y ≡ false
   unfolding noSlot
-  room-none y e = rw (e, not-both (not (given (x .page))))
+  room-none y e = rw (e, and-false (not (given (x .page))))
 
   room-free : (y : Cell Table Page) → isFound (freePageFound d) ≡ true → noSlot K Table Page (shelves d) k y ≡ false
   unfolding noSlot
-  room-free y g = rw (← page-free-found, g) (not-both (not (given (x .page)) && given (y .page)))
+  room-free y g = rw (← page-free-found, g) (and-false (not (given (x .page)) && given (y .page)))
 
   find-given : given (find K (Option Table) k (shelves d .classPlaces)) ≡ given (placeOf (x .learned) (x .page))
   unfolding shelves
@@ -201,11 +195,11 @@ module _ (d : Desk) (s : Sound d) (k : Key) where
 
   place-none : (y : Cell Table Page) → placeOf (y .learned) (y .page) ≡ none → noClassPlace K Table Page (shelves d) k y ≡ false
   unfolding noClassPlace
-  place-none y e = rw (e, not-both (not (given (find K (Option Table) k (shelves d .classPlaces)))))
+  place-none y e = rw (e, and-false (not (given (find K (Option Table) k (shelves d .classPlaces)))))
 
   place-room : (y : Cell Table Page) → isFound (freePlaceFound d) ≡ true → noClassPlace K Table Page (shelves d) k y ≡ false
   unfolding noClassPlace
-  place-room y g = rw (← place-free-found, g) (not-both (not (given (find K (Option Table) k (shelves d .classPlaces))) && given (placeOf (y .learned) (y .page))))
+  place-room y g = rw (← place-free-found, g) (and-false (not (given (find K (Option Table) k (shelves d .classPlaces))) && given (placeOf (y .learned) (y .page))))
 
   -- ---- the desk after each accepted call
   two-put : (t : Page → Bool) (p : Page) (u : Place → Bool) (q : Place) → withPage (withPlace d (findBy u (d .places) 0) q) (findBy t (d .pages) 0) p ≡ deskOf (atFirst t p (d .pages)) (atFirst u q (d .places))

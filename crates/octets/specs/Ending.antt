@@ -1,22 +1,20 @@
 -- The end as a loop meets it: a last byte is one move of zeros and a byte. Assumes nothing.
-use mathlib.Core.Path.{_≡_, refl, sym, ap, ap₂, _∙_, subst}
+use mathlib.Core.Path.{_≡_, refl, sym, ap, _∙_, subst}
 use mathlib.Core.Logic.{_≢_, _⊎_, inl, inr}
-use Prim.Native.Nat.{ℕ, zero, suc, _+_, _-_, _*_, _/_, _%_, _^_, _≤_, _<_}
-use native.Mathlib.Nat.{pow-succ', mul-one, sub-zero, sub-self}
-use native.Mathlib.Numerals.{add-one}
+use Prim.Native.Nat.{ℕ, zero, suc, _+_, _-_, _*_, _%_, _^_, _≤_, _<_}
+use native.Mathlib.Nat.{pow-succ', mul-one, sub-zero}
 use native.Mathlib.Omega.{arith}
 use mathlib.Core.List.{List, [], _∷_, _++_, append-assoc}
 use lib.ListN.{length, take, set, length-set}
 use lib.Seq.{take-suc-set}
-use Rattle.ground.specs.Tests.{same?, if-eq, if-ne}
+use Rattle.ground.specs.Tests.{same?, if-ne}
 use Rattle.interval.specs.declared.Interval.{Interval}
-use Rattle.octets.specs.declared.Coder.{Coder}
 use Rattle.octets.specs.declared.Byte.{Byte}
 use Rattle.octets.specs.Octets.{Registers, bits, carried, left, byte, pad, pads, lastByte, cover, finish, bytes}
 use Rattle.octets.specs.Unit.{unit, unit-pred, unit-zero}
 use Rattle.octets.specs.Fit.{Fit, Rest, fit-byte, byte-some, bits-ff, bits-else}
 use Rattle.octets.specs.Loops.{behind, behind-cover}
-use Rattle.octets.specs.Lift.{Out, lift, there}
+use Rattle.octets.specs.Lift.{Out}
 
 -- ---- zeros are shifted in
 pub fit-pad : (w : Registers) → Rest w → Fit (pad w)

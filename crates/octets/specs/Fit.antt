@@ -1,16 +1,16 @@
 -- Bounds that hold of every reachable state (I1 to I3), and what a byte that is due does to the numbers. Assumes nothing.
 use mathlib.Core.Path.{_≡_, refl, sym, ap, _∙_, subst}
 use mathlib.Core.Logic.{_≢_, _⊎_, inl, inr}
-use Prim.Native.Nat.{ℕ, zero, suc, pred, _+_, _-_, _*_, _/_, _%_, _^_, _≤_, _<_}
+use Prim.Native.Nat.{ℕ, zero, suc, _+_, _-_, _*_, _/_, _%_, _^_, _≤_, _<_}
 use native.Mathlib.Omega.{arith}
-use mathlib.Core.Bool.{Bool, true, false, cond, not}
-use mathlib.Core.List.{List, [], _∷_, _++_}
-use lib.Dec.{T, ltb, leb, eqb, ltb→lt, nltb→le}
+use mathlib.Core.Bool.{not}
+use mathlib.Core.List.{List, [], _∷_}
+use lib.Dec.{T, ltb, eqb, ltb→lt, nltb→le}
 use Rattle.ground.specs.Tests.{by-cond, same?, if-eq, if-ne}
-use Rattle.octets.specs.Unit.{unit, unit-pred, unit-zero, unit-eight, unit-seven, unit-pos}
+use Rattle.octets.specs.Unit.{unit, unit-pred, unit-zero, unit-eight, unit-seven}
 use Rattle.interval.specs.declared.Interval.{Interval}
-use Rattle.interval.specs.Interval.{Decision, upperPart, lowerPart, turns}
-use Rattle.octets.specs.Octets.{Registers, start, bits, carried, left, byte, due, double, shifts, at, part, pel, run, pad, pads, lastByte, cover, finish}
+use Rattle.interval.specs.Interval.{Decision, upperPart, lowerPart}
+use Rattle.octets.specs.Octets.{Registers, start, bits, carried, left, byte, due, double, shifts, at, part, pel, run}
 
 -- the two parts, with the bytes as they are; what holds of both holds of a pel's
 abbrev pub upper : ℕ → Registers → Registers

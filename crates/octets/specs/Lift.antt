@@ -1,9 +1,9 @@
 -- The code's numbers as the definition's registers, and the bytes of one pel as the code makes them: all shifts first, the bytes after.
 -- Assumes nothing.
-use mathlib.Core.Path.{_≡_, refl, sym, ap, ap₂, _∙_, subst}
+use mathlib.Core.Path.{_≡_, refl, sym, ap, ap₂, _∙_}
 use mathlib.Core.Logic.{_≢_, _⊎_, inl, inr}
-use Prim.Native.Nat.{ℕ, zero, suc, _+_, _-_, _*_, _/_, _%_, _^_, _≤_, _<_}
-use native.Mathlib.Nat.{mul-div-mul-right, mul-assoc, mul-one, add-zero, div-add-mod', mod-lt, mul-pos, mul-le-mul-right, div-lt-iff-lt-mul, mul-lt-mul-of-pos-right}
+use Prim.Native.Nat.{ℕ, _+_, _-_, _*_, _/_, _%_, _^_, _≤_, _<_}
+use native.Mathlib.Nat.{mul-div-mul-right, mul-assoc, div-add-mod', mod-lt, mul-pos, mul-le-mul-right, div-lt-iff-lt-mul, mul-lt-mul-of-pos-right}
 use native.Mathlib.Omega.{arith}
 use mathlib.Core.List.{List, [], _∷_, _++_}
 use lib.ListN.{take}
@@ -135,13 +135,6 @@ module _ (xs : List ℕ) (c a s h j : ℕ) (v : Byte) (o : Out h c (2 ^ j) v) wh
       o .low ∙ ap (λ (n : ℕ). left h c % 2 ^ (24 - bits (carried h c)) * 2 ^ n) (sym (ap (λ (n : ℕ). n + i) (sym (o .bits′)) ∙ e))
       ∙ ap (λ (n : ℕ). left h c % 2 ^ (24 - bits (carried h c)) * n) (pow-add 2 (bits (carried h c)) i)
       ∙ sym (mul-assoc (left h c % 2 ^ (24 - bits (carried h c))) (2 ^ bits (carried h c)) (2 ^ i))
-
-  pub low-small : lowThen < 2 ^ 24
-  low-small = go (same? (carried h c) 255)
-    where
-      go : (carried h c ≡ 255) ⊎ (carried h c ≢ 255) → left h c % 2 ^ (24 - bits (carried h c)) * 2 ^ bits (carried h c) < 2 ^ 24
-      go (inl y) = rw (bits-ff (carried h c) y) (omega arith)
-      go (inr y) = rw (bits-else (carried h c) y) (omega arith)
 
   bits-some : 1 ≤ bits (carried h c)
   bits-some = go (same? (carried h c) 255)

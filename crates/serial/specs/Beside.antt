@@ -18,11 +18,10 @@ use Rattle.desk.specs.declared.Key.{Key}
 use Rattle.desk.specs.declared.Desk.{Desk}
 use Rattle.desk.specs.Places.{emptyDesk, unusedPage, freePlace}
 use Rattle.desk.specs.Lawful.{lawful}
-use Rattle.kept.specs.Lists.{orElse}
+use Rattle.turns.specs.Base.{orElse}
 use Rattle.kept.specs.View.{shelves}
 use Rattle.kept.specs.Sound.{Sound}
 use Rattle.kept.specs.Stored.{cellOf, noTable, table-found, table-there}
-use Rattle.kept.specs.Kept.{empty-lawful}
 use Rattle.serial.specs.Run.{Call, Reading, AllDone, calling, markOf, step, run, after, learnedTable}
 use Rattle.serial.specs.Office.{bureau}
 use Rattle.serial.specs.Bridge.{Alike, alike, step-lawful}
@@ -71,7 +70,3 @@ module _ (R : Reading) where
       go : (o : Option Table) → cond (given o) (some (orElse o noTable)) none ≡ o
       go none = refl
       go (some t) = refl
-
-  -- refusal 12 never comes in a run from the empty desk
-  pub reached-lawful : (cs : List Call) → lawful (after R emptyDesk cs) ≡ true
-  reached-lawful cs = same-run cs emptyDesk empty-lawful .stays

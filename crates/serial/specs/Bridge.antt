@@ -26,9 +26,10 @@ use Rattle.desk.specs.Places.{stateFor, noPage, freePlace, pageFound, tableFoun
 use Rattle.desk.specs.Lawful.{within, lawful, lawfulTable, lawfulKey}
 use Rattle.desk.specs.Refusals.{Tests, refusal, lentAfter}
 use Rattle.desk.specs.Refusals as numbers
-use Rattle.desk.specs.Calls.{unless, unlessLent, done, openTests, startTable, openPage, openDesk, openSpec, leaveTests, closeDesk, closeSpec, abandonDesk, abandonSpec, dropTests, dropSpec, lookTests, lookSpec, lookLent, bandOf, servedPage, bandDesk, writeTests, writeSpec, writeLent, readTests, readSpec, readLent, ReadOutcome}
+use Rattle.desk.specs.Calls.{unless, unlessLent, done, openTests, startTable, openPage, openDesk, openSpec, leaveTests, closeDesk, closeSpec, abandonDesk, abandonSpec, dropTests, dropSpec, lookTests, lookSpec, lookLent, bandOf, servedPage, bandDesk, writeTests, writeSpec, writeLent, readTests, readSpec, readLent}
 use Rattle.desk.specs.Calls as spec
-use Rattle.kept.specs.Lists.{no-way, both, not-true, orElse}
+use Rattle.turns.specs.Base.{orElse}
+use Rattle.ground.specs.Bools.{both, neither, not-true}
 use Rattle.kept.specs.View.{K, shelves}
 use Rattle.kept.specs.Sound.{Sound, lawful-sound}
 use Rattle.kept.specs.Bands.{all-get}
@@ -205,10 +206,6 @@ module _ (R : Reading) where
     table-prop : (t : List ℕ) → lawfulTable t ≡ true → LawfulTable t
     table-prop t l cx = leb-true (indexOf (getD t cx 0)) 29 (all-get (λ e. leb (indexOf e) 29) t cx 0 l refl)
 
-    neither : (a b : Bool) → (a || b) ≡ false → (a ≡ false) × (b ≡ false)
-    neither true b e = no-way e
-    neither false b e = (refl, e)
-
     pub found-right : (ask : Ask) (code out : List ℕ) → FoundRight d ask code out (foundIn R (pageNow (ask .key)) (ask .rows) code)
     unfolding readTests foundIn
     found-right ask code out r =
@@ -324,8 +321,3 @@ module _ (R : Reading) where
     step-lawful (abandons k) = abandon-lawful d k h
     step-lawful (drops k) = drop-lawful d k h
     step-lawful (looks k out) = look-lawful d k out h
-
-    -- a read is one that its contract allows
-    pub read-allowed : (ask : Ask) (code out : List ℕ)
-        → ReadOutcome d ask code out (readSpec (foundIn R (pageNow (ask .key)) (ask .rows) code) d ask code out) (readLent (foundIn R (pageNow (ask .key)) (ask .rows) code) d ask code out)
-    read-allowed ask code out = record { found = foundIn R (pageNow (ask .key)) (ask .rows) code; right = found-right ask code out; outcome = refl; lent = refl }

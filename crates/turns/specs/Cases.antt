@@ -1,12 +1,13 @@
 -- Runs of a small office, to see that `serial` is the sentence: computed, not argued. Assumes nothing.
 -- Its coder is a toy: a page's working table is a list of numbers, a band of n joins n to it and answers the whole list; 0 is damaged (10); an empty page cannot be closed (17).
 use mathlib.Core.Path.{_≡_, refl}
-use mathlib.Core.Bool.{Bool, true, false, _&&_}
+use mathlib.Core.Bool.{Bool, true, _&&_}
 use mathlib.Core.List.{List, [], _∷_, _++_}
 use mathlib.Core.Option.{Option, some, none}
 use Prim.Native.Nat.{ℕ, zero, suc}
 use lib.Dec.{eqb}
 use borrow.Author.Tests.{eqb-true, eq-eqb}
+use Rattle.ground.specs.Bools.{both}
 use Rattle.turns.specs.Service.{Kind, opening, band, closing, abandoning, looking, changing, Entry, calls}
 use Rattle.turns.specs.Office.{Result, refuse, accept, Office, service}
 use Rattle.turns.specs.Desk.{newDesk, run, after}
@@ -23,10 +24,6 @@ record Name : Type 0 where
 
 abbrev alike : Name → Name → Bool
 alike j k = eqb (j .school) (k .school) && eqb (j .class) (k .class)
-
-both : (a b : Bool) → (a && b) ≡ true → (a ≡ true) × (b ≡ true)
-both true b h = (refl, h)
-both false b h = let z : _≡_ {A = ℕ} 0 1 = cc in (h, absurd (omega native.Mathlib.Omega.arith))
 
 alike-self : (k : Name) → alike k k ≡ true
 alike-self k = rw (eq-eqb (k .school) (k .school) refl, eq-eqb (k .class) (k .class) refl)

@@ -14,7 +14,8 @@ use Rattle.turns.specs.Office.{Cell, Result, refuse, accept, Office, cel
 use Rattle.turns.specs.Desk.{given, one, placed, hasPage, hasPlace, Desk, Outcome, newDesk, store, noPage, noPlace, admit, settle, step, entry, run, after}
 use Rattle.turns.specs.Serial.{Waiting, waitsAs, servesAs, serialFrom, serial, Begun, begins, goes-on, Whole, nothing, page, look, change}
 use Rattle.turns.specs.Laws.{Laws}
-use Rattle.turns.specs.Base.{no-way, one-le, kept, placed-sum, placed-page, placed-none, kept-page, and-false, room-down, room-below, put-self, put-each, put-both, put-put, has, relist, has-one, relist-length, relist-self, relist-other, calls-append}
+use Rattle.turns.specs.Base.{one-le, kept, placed-sum, placed-page, placed-none, kept-page, room-down, room-below, put-self, put-each, put-both, put-put, has, relist, has-one, relist-length, relist-self, relist-other, calls-append}
+use Rattle.ground.specs.Bools.{no-way, and-false}
 
 -- a cell without its page
 abbrev pub shut : {T P : Type 0} → Cell T P → Cell T P
