@@ -12,9 +12,10 @@ use Rattle.octets.specs.Unit.{unit}
 use Rattle.interval.specs.Interval.{Decision, whole}
 use Rattle.octets.specs.Octets.{Registers, start, bits, run, finish, bytes, code}
 use Rattle.octets.specs.Fit.{Ready, AllSized, ready-run, ready-start, bits-ff, bits-else}
-use Rattle.exact.specs.Value.{value, places, same-run, same-start, exact}
+use Rattle.exact.specs.Value.{value, places, exact, head-le}
+use Rattle.exact.specs.Agree.{same-run, same-start}
 use Rattle.exact.specs.End.{value-run}
-use Rattle.exact.specs.Ahead.{Ahead, Going, going-run, going-end, Lawful, need, head-le}
+use Rattle.exact.specs.Ahead.{Ahead, Going, going-run, going-end, Lawful, need}
 
 -- the code of a run of decisions, and its shifts
 unfoldable pub written : List Decision → List ℕ

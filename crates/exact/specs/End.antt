@@ -10,9 +10,10 @@ use Rattle.ground.specs.Tests.{by-cond}
 use Rattle.octets.specs.Unit.{unit}
 use Rattle.interval.specs.Interval.{Decision, whole}
 use Rattle.octets.specs.Octets.{Registers, start, byte, run, pad, pads, lastByte, cover, finish, bytes}
-use Rattle.octets.specs.Fit.{Fit, Rest, Byte, eight, seven, made, AllSized, ready-run, ready-start}
-use Rattle.octets.specs.Ending.{Filled, filled, fit-pad, rest-last, seven-bits}
-use Rattle.exact.specs.Value.{value, places, Agree, agree-pad, agree-byte, byte-until, same-run, same-start, exact}
+use Rattle.octets.specs.Fit.{Fit, Rest, Byte, made, byte-few, AllSized, ready-run, ready-start}
+use Rattle.octets.specs.Ending.{Filled, filled, fit-pad, rest-last}
+use Rattle.exact.specs.Value.{value, places, exact}
+use Rattle.exact.specs.Agree.{Agree, agree-pad, agree-byte, same-run, same-start}
 
 agree-pads : (n : ℕ) (w : Registers) (low m : ℕ) → Fit w → w .until ≡ n → Agree w low m → Agree (pads n w) (low * 2 ^ n) (m + n)
 unfolding pads
@@ -80,21 +81,14 @@ tail-pads (suc n) r w e h k =
     })
 
 tail-made : (r : ℕ) (w : Registers) → w .until ≡ 0 → Byte w → Tail r w → Tail (r - byte w .until) (byte w)
-tail-made r w z (eight e m) k =
-    let q : byte w .until ≡ 8 = byte-until w ∙ e in
+unfolding unit
+tail-made r w z m k =
+    let t : ℕ = 24 - byte w .until in
     record {
-      zeros = min (k .zeros) 16;
-      fits = omega (arith, k .fits, z, q);
-      even = keeps (2 ^ min (k .zeros) 16) _ _ _ _ _ _ (m .whole) (pow-dvd _ 24 (omega arith)) (dvd-trans _ (pow-dvd _ (k .zeros) (omega arith)) (k .even)) (pow-dvd _ 16 (omega arith));
-      clear = λ y. none-left 65536 _ (keeps 65536 _ _ _ _ _ _ (m .whole) (pow-dvd 16 24 (omega arith)) (dvd-trans _ (pow-dvd 16 (k .zeros) (omega (arith, k .fits))) (k .even)) (dvd-refl _)) (m .part);
-    }
-tail-made r w z (seven e m) k =
-    let q : byte w .until ≡ 7 = byte-until w ∙ e in
-    record {
-      zeros = min (k .zeros) 17;
-      fits = omega (arith, k .fits, z, q);
-      even = keeps (2 ^ min (k .zeros) 17) _ _ _ _ _ _ (m .whole) (pow-dvd _ 24 (omega arith)) (dvd-trans _ (pow-dvd _ (k .zeros) (omega arith)) (k .even)) (pow-dvd _ 17 (omega arith));
-      clear = λ y. none-left 131072 _ (keeps 131072 _ _ _ _ _ _ (m .whole) (pow-dvd 17 24 (omega arith)) (dvd-trans _ (pow-dvd 17 (k .zeros) (omega (arith, k .fits))) (k .even)) (dvd-refl _)) (m .part);
+      zeros = min (k .zeros) t;
+      fits = omega (arith, k .fits, z, byte-few w);
+      even = keeps (2 ^ min (k .zeros) t) _ _ _ _ _ _ (m .whole) (pow-dvd _ 24 (omega arith)) (dvd-trans _ (pow-dvd _ (k .zeros) (omega arith)) (k .even)) (pow-dvd _ t (omega arith));
+      clear = λ y. none-left (2 ^ t) _ (keeps (2 ^ t) _ _ _ _ _ _ (m .whole) (pow-dvd t 24 (omega arith)) (dvd-trans _ (pow-dvd t (k .zeros) (omega (arith, k .fits, y, z, byte-few w))) (k .even)) (dvd-refl _)) (m .part);
     }
 
 pub tail-last : (r : ℕ) (w : Registers) → Rest w → Tail r w → Tail (r - lastByte w .until) (lastByte w)
@@ -108,7 +102,7 @@ cover-clear zero r w f k h = k .clear (omega arith)
 cover-clear (suc n) r w f k h =
     by-cond (λ (v : Registers). v .interval .low ≡ 0) (eqb r 0) w (cover n (r - lastByte w .until) (lastByte w))
     (λ t. k .clear (eqb→eq r 0 t))
-    (λ t. cover-clear n (r - lastByte w .until) (lastByte w) (rest-last w f) (tail-last r w f k) (omega (arith, seven-bits (pads (w .until) w))))
+    (λ t. cover-clear n (r - lastByte w .until) (lastByte w) (rest-last w f) (tail-last r w f k) (omega (arith, byte-few (pads (w .until) w))))
 
 pub tail-start : (w : Registers) → Rest w → Tail (24 - w .until) w
 tail-start w r =

@@ -1,7 +1,7 @@
 -- The code's numbers as the definition's registers, and the bytes of one pel as the code makes them: all shifts first, the bytes after.
 -- Assumes nothing.
 use mathlib.Core.Path.{_≡_, refl, sym, ap, ap₂, _∙_}
-use mathlib.Core.Logic.{_≢_, _⊎_, inl, inr}
+use mathlib.Core.Logic.{_≢_}
 use Prim.Native.Nat.{ℕ, _+_, _-_, _*_, _/_, _%_, _^_, _≤_, _<_}
 use native.Mathlib.Nat.{mul-div-mul-right, mul-assoc, div-add-mod', mod-lt, mul-pos, mul-le-mul-right, div-lt-iff-lt-mul, mul-lt-mul-of-pos-right}
 use native.Mathlib.Omega.{arith}
@@ -14,8 +14,7 @@ use Rattle.octets.specs.declared.Coder.{Coder}
 use Rattle.octets.specs.declared.Byte.{Byte}
 use Rattle.octets.specs.declared.Put.{Put}
 use Rattle.octets.specs.Octets.{Registers, bits, carried, left, byte}
-use Rattle.ground.specs.Tests.{same?}
-use Rattle.octets.specs.Fit.{carried-ff, carried-else, left-ff, left-else, bits-ff, bits-else}
+use Rattle.octets.specs.Fit.{carried-ff, carried-else, left-ff, left-else, bits-ff, bits-else, bits-few}
 use Rattle.octets.specs.Loops.{steps, steps-few, steps-at, jump}
 
 abbrev pub lift : Coder → List ℕ → Registers
@@ -137,11 +136,7 @@ module _ (xs : List ℕ) (c a s h j : ℕ) (v : Byte) (o : Out h c (2 ^ j) v) wh
       ∙ sym (mul-assoc (left h c % 2 ^ (24 - bits (carried h c))) (2 ^ bits (carried h c)) (2 ^ i))
 
   bits-some : 1 ≤ bits (carried h c)
-  bits-some = go (same? (carried h c) 255)
-    where
-      go : (carried h c ≡ 255) ⊎ (carried h c ≢ 255) → 1 ≤ bits (carried h c)
-      go (inl y) = omega (arith, bits-ff (carried h c) y)
-      go (inr y) = omega (arith, bits-else (carried h c) y)
+  bits-some = omega (arith, bits-few (carried h c))
 
   abbrev next : Registers
   next = there (xs ++ (v .settled ∷ [])) lowThen (a * 2 ^ v .bits) (s + v .bits) (v .held)
