@@ -31,12 +31,12 @@ one-le true = omega arith
 one-le false = omega arith
 
 -- a cell is reserved where it has a page and no learned table
-abbrev pub kept : {T P : Type 0} → Option T → Option P → Bool
-kept (some t) p = false
-kept none (some p) = true
-kept none none = false
+abbrev pub onlyReserved : {T P : Type 0} → Option T → Option P → Bool
+onlyReserved (some t) p = false
+onlyReserved none (some p) = true
+onlyReserved none none = false
 
-pub placed-sum : {T P : Type 0} (t : Option T) (p : Option P) → one (placed t p) ≡ one (given t) + one (kept t p)
+pub placed-sum : {T P : Type 0} (t : Option T) (p : Option P) → one (placed t p) ≡ one (given t) + one (onlyReserved t p)
 placed-sum (some t) p = refl
 placed-sum none (some p) = refl
 placed-sum none none = refl
@@ -51,10 +51,10 @@ placed-none (some t) p e = refl
 placed-none none (some p) e = no-way (ap given e)
 placed-none none none e = refl
 
-pub kept-page : {T P : Type 0} (t : Option T) (p : Option P) → given t ≡ false → given p ≡ true → kept t p ≡ true
-kept-page (some t) p h q = no-way h
-kept-page none (some p) h q = refl
-kept-page none none h q = no-way (sym q)
+pub only-reserved : {T P : Type 0} (t : Option T) (p : Option P) → given t ≡ false → given p ≡ true → onlyReserved t p ≡ true
+only-reserved (some t) p h q = no-way h
+only-reserved none (some p) h q = refl
+only-reserved none none h q = no-way (sym q)
 
 -- no room is wanted, or there is room
 pub room-down : (b : Bool) (p a n : ℕ) → (b && leb p a) ≡ false → n ≤ a → (b && leb p n) ≡ false

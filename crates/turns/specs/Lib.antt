@@ -4,6 +4,9 @@ pub mod Office
 pub mod Desk
 pub mod Base
 pub mod Laws
+pub mod Steps
+pub mod Held
+pub mod Tally
 pub mod Turns
 pub mod Sense
 pub mod Strike
