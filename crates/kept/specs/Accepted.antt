@@ -31,7 +31,8 @@ use Rattle.ground.specs.Bools.{no-way, both, not-true, neither}
 use Rattle.kept.specs.View.{key-only, K, pageKey, viewPageBy}
 use Rattle.kept.specs.Sound.{Sound, lawful-sound}
 use Rattle.kept.specs.Bands.{table-lawful, white-clear, last-clear}
-use Rattle.kept.specs.Stored.{cellOf, Stored, page-found, page-there, page-own, place-own, close-stored, abandon-stored, drop-stored, page-stored, new-stored}
+use Rattle.kept.specs.Stored.{Stored, close-stored, abandon-stored, drop-stored, page-stored, new-stored}
+use Rattle.kept.specs.Cells.{cellOf, page-found, page-there, page-own, place-own}
 use Rattle.kept.specs.Passed.{Passed, passed}
 
 -- ---- what a lawful page and a learned place have

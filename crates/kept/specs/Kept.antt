@@ -22,7 +22,8 @@ use Rattle.desk.specs.Calls.{refused, done, unless, openTests, openDesk, openSp
 use Rattle.turns.specs.Base.{orElse}
 use Rattle.kept.specs.View.{sameKey}
 use Rattle.kept.specs.Sound.{Sound, sound-lawful}
-use Rattle.kept.specs.Stored.{cellOf, Stored, stored-sound, stored-others, page-found, page-there, table-found, table-there, noTable}
+use Rattle.kept.specs.Stored.{Stored, stored-sound, stored-others}
+use Rattle.kept.specs.Cells.{cellOf, page-found, page-there, table-found, table-there, noTable}
 use Rattle.kept.specs.Accepted.{close-then, abandon-then, open-sound, open-then, leave-sound, leave-page, drop-sound, drop-then, write-sound, write-then, read-sound, read-then}
 
 -- the empty desk is lawful

@@ -21,10 +21,11 @@ use Rattle.desk.specs.Lawful.{lawful}
 use Rattle.turns.specs.Base.{orElse}
 use Rattle.kept.specs.View.{shelves}
 use Rattle.kept.specs.Sound.{Sound}
-use Rattle.kept.specs.Stored.{cellOf, noTable, table-found, table-there}
+use Rattle.kept.specs.Cells.{cellOf, noTable, table-found, table-there}
 use Rattle.serial.specs.Run.{Call, Reading, AllDone, calling, markOf, step, run, after, learnedTable}
 use Rattle.serial.specs.Office.{bureau}
-use Rattle.serial.specs.Bridge.{Alike, alike, step-lawful}
+use Rattle.serial.specs.Bridge.{alike, step-lawful}
+use Rattle.serial.specs.Alike.{Alike}
 
 module _ (R : Reading) where
   pub record SameRun (d : Desk) (cs : List Call) : Type 0 where

@@ -20,7 +20,7 @@ use Rattle.desk.specs.declared.Key.{Key}
 use Rattle.desk.specs.declared.Page.{Page}
 use Rattle.desk.specs.Places.{emptyDesk, pageFound, isFound}
 use Rattle.kept.specs.Sound.{lawful-sound}
-use Rattle.kept.specs.Stored.{cellOf, page-found}
+use Rattle.kept.specs.Cells.{cellOf, page-found}
 use Rattle.kept.specs.Kept.{empty-lawful}
 use Rattle.serial.specs.Run.{Call, Reading, AllDone, calling, run, after, learnedTable}
 use Rattle.serial.specs.Office.{bureau, bureau-lawful}

@@ -25,7 +25,7 @@ use Rattle.desk.specs.Calls.{bandOf, servedPage}
 use Rattle.turns.specs.Base.{orElse, none-given}
 use Rattle.ground.specs.Bools.{not-true}
 use Rattle.kept.specs.View.{sameKey, key-self, key-only}
-use Rattle.kept.specs.Stored.{noTable}
+use Rattle.kept.specs.Cells.{noTable}
 use Rattle.kept.specs.Passed.{passed}
 use Rattle.serial.specs.Run.{Call, opens, writes, reads, closes, abandons, drops, looks, keyOf, kindOf, Reading, Output, foundIn}
 
