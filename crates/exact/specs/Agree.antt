@@ -1,10 +1,11 @@
--- I4: at every state the bytes at their places, with what is in no byte yet, are the lower end in exact arithmetic. Assumes nothing.
+-- At every state the bytes at their places, with what is in no byte yet, are the lower end in exact arithmetic. Assumes nothing.
 use mathlib.Core.Path.{_≡_, refl, ap, _∙_, subst}
 use Prim.Native.Nat.{ℕ, zero, suc, _+_, _-_, _*_, _^_}
 use native.Mathlib.Omega.{arith}
 use mathlib.Core.Bool.{cond}
 use mathlib.Core.List.{List, [], _∷_, _++_, append-assoc}
 use lib.Dec.{T, ltb, eqb, ltb→lt, eqb→eq}
+use native.Mathlib.Nat.{add-suc}
 use Rattle.ground.specs.Tests.{by-cond, by-cond₂}
 use Rattle.octets.specs.Unit.{unit, unit-pred, unit-zero}
 use Rattle.interval.specs.declared.Interval.{Interval}
@@ -75,7 +76,7 @@ same-shift : (w : Registers) (e : Interval) → Rest w → T (ltb (w .interval .
 same-shift w e r t m =
     record {
       agree = agree-due (double w) (2 * e .low) (20 + suc (e .count)) (fit-double w r (ltb→lt (w .interval .width) 4096 t))
-          (rw (native.Mathlib.Nat.add-suc 20 (e .count)) (agree-double w (e .low) (20 + e .count) r (m .agree)));
+          (rw (add-suc 20 (e .count)) (agree-double w (e .low) (20 + e .count) r (m .agree)));
       wide = due-width (double w) ∙ ap (λ (k : ℕ). 2 * k) (m .wide);
       count = due-count (double w) ∙ ap suc (m .count);
     }

@@ -1,8 +1,9 @@
--- How a code goes on from a state: R2 (extension), the interval that the code's value lies in, R3 (prefix), the byte laws, the length law.
+-- How a code goes on from a state, whatever is coded next: the settled bytes stay, the code's value lies in the state's interval, the bytes are
+-- lawful, and none is missing or in vain.
 -- All by going back from the end, one small step at a time; fractions are compared multiplied out. Assumes nothing.
 use mathlib.Core.Path.{_≡_, refl, sym, ap, _∙_, subst}
 use Prim.Native.Nat.{ℕ, zero, suc, _+_, _-_, _*_, _^_, _≤_, _<_}
-use native.Mathlib.Nat.{mul-le-mul-right}
+use native.Mathlib.Nat.{mul-le-mul-right, pos-of-ne-zero, add-sub-cancel}
 use native.Mathlib.Omega.{arith}
 use mathlib.Core.List.{List, [], _∷_, _++_, append-assoc}
 use lib.ListN.{take}
@@ -212,7 +213,7 @@ ahead-cover zero r w f k h = ahead-stop w r f (omega arith) (k .clear (omega ari
 ahead-cover (suc j) r w f k h =
     by-cond (λ (v : Registers). Ahead w (bytes v) r) (eqb r 0) w (cover j (r - lastByte w .until) (lastByte w))
     (λ t. ahead-stop w r f (eqb→eq r 0 t) (k .clear (eqb→eq r 0 t)))
-    (λ t. ahead-last w _ r f (native.Mathlib.Nat.pos-of-ne-zero (neqb→ne r 0 t))
+    (λ t. ahead-last w _ r f (pos-of-ne-zero (neqb→ne r 0 t))
     (ahead-cover j (r - lastByte w .until) (lastByte w) (rest-last w f) (tail-last r w f k) (omega (arith, byte-few (pads (w .until) w)))))
 
 -- ---- the run. n bits are to come: those in c, and the shifts that are left of S
@@ -234,7 +235,7 @@ going-byte w all S f z g =
       togo = omega (arith, g .togo, byte-few w);
       soon = omega (arith, g .soon);
       ahead = ahead-byte w all (g .n + byte w .until) f z (omega (arith, byte-few w))
-          (subst (λ (x : ℕ). Ahead (byte w) all x) (sym (native.Mathlib.Nat.add-sub-cancel (g .n) (byte w .until))) (g .ahead));
+          (subst (λ (x : ℕ). Ahead (byte w) all x) (sym (add-sub-cancel (g .n) (byte w .until))) (g .ahead));
     }
 
 pub going-due : (w : Registers) (all : List ℕ) (S : ℕ) → Fit w → Going (due w) all S → Going w all S

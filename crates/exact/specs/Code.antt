@@ -24,7 +24,7 @@ written ds = code (run ds start)
 unfoldable pub counted : List Decision → ℕ
 counted ds = run ds start .interval .count
 
--- R2, R1 and R3 of any state w and any decisions that follow: w's settled bytes begin the code, and Ahead says how it goes on
+-- of any state w and any decisions that follow: w's settled bytes begin the code, and Ahead says how it goes on
 pub extension : (es : List Decision) (w : Registers) → Ready w → AllSized es → Going w (bytes (finish (run es w))) (run es w .interval .count)
 extension es w r z = going-run es w _ _ z r (going-end (run es w) (ready-run es w z r .rest))
 
@@ -68,7 +68,7 @@ coded ds z =
       wanted = subst₂ (λ (b : ℕ) (l : List ℕ). need b l ≤ 12 + counted ds) b0 e (omega (arith, i .wanted, g .togo));
     }
 
--- ---- the value of the code is the final low end, exactly
+-- ---- the value of the code is the final lower end, exactly
 pub counted-exact : (ds : List Decision) → AllSized ds → counted ds ≡ exact ds whole .count
 unfolding counted
 counted-exact ds z = same-run ds start whole z ready-start same-start .count

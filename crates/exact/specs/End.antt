@@ -1,11 +1,11 @@
--- The end of a code: at most four bytes, after which nothing is left in c; so the value of the code is the final low end. Assumes nothing.
+-- The end of a code: at most four bytes, after which nothing of the lower end is left; so the value of the code is the final lower end. Assumes nothing.
 use mathlib.Core.Path.{_≡_, refl, sym, ap, _∙_, subst, subst₂}
 use Prim.Native.Nat.{ℕ, zero, suc, _+_, _-_, _*_, _^_, _≤_, _<_, _∣_, min}
-use native.Mathlib.Nat.{pow-succ', mul-assoc, mul-one, add-zero, dvd-trans, dvd-add, dvd-add-iff-right, dvd-mul-left-of-dvd, dvd-mul-right, dvd-refl, mul-dvd-mul-left, mod-eq-zero-of-dvd, mod-eq-of-lt}
+use native.Mathlib.Nat.{pow-succ', mul-assoc, mul-one, add-zero, dvd-trans, dvd-add, dvd-add-iff-right, dvd-mul-left-of-dvd, dvd-mul-right, dvd-refl, mul-dvd-mul-left, mod-eq-zero-of-dvd, mod-eq-of-lt, add-sub-of-le, one-dvd, eq-of-mul-eq-mul-right, mul-right-comm, add-comm}
 use native.Mathlib.Omega.{arith}
 use mathlib.Core.List.{List}
 use lib.Dec.{eqb, eqb→eq}
-use lib.Pow.{pow-add}
+use lib.Pow.{pow-add, pow-pos}
 use Rattle.ground.specs.Tests.{by-cond}
 use Rattle.octets.specs.Unit.{unit}
 use Rattle.interval.specs.Interval.{Decision, whole}
@@ -49,7 +49,7 @@ agree-cover (suc n) r w low m f g =
 
 -- ---- nothing is left
 
--- r bits of the low end are in no byte, and the bits of c after them are zero
+-- r bits of the lower end are in no byte, and the bits of c after them are zero
 pub record Tail (r : ℕ) (w : Registers) : Type 0 where
   pub zeros : ℕ
   pub fits : zeros + r ≡ 24 - w .until
@@ -57,7 +57,7 @@ pub record Tail (r : ℕ) (w : Registers) : Type 0 where
   pub clear : r ≡ 0 → w .interval .low ≡ 0
 
 pow-dvd : (i j : ℕ) → i ≤ j → 2 ^ i ∣ 2 ^ j
-pow-dvd i j h = subst (λ (x : ℕ). 2 ^ i ∣ x) (sym (pow-add 2 i (j - i)) ∙ ap (λ (x : ℕ). 2 ^ x) (native.Mathlib.Nat.add-sub-of-le h)) (dvd-mul-right (2 ^ i) (2 ^ (j - i)))
+pow-dvd i j h = subst (λ (x : ℕ). 2 ^ i ∣ x) (sym (pow-add 2 i (j - i)) ∙ ap (λ (x : ℕ). 2 ^ x) (add-sub-of-le h)) (dvd-mul-right (2 ^ i) (2 ^ (j - i)))
 
 -- what divides the rest divides c'
 keeps : (p h c b u h' c' : ℕ) → h * 16777216 + c ≡ b * 16777216 + (h' * u + c') → p ∣ 16777216 → p ∣ c → p ∣ u → p ∣ c'
@@ -106,17 +106,17 @@ cover-clear (suc n) r w f k h =
 
 pub tail-start : (w : Registers) → Rest w → Tail (24 - w .until) w
 tail-start w r =
-    record { zeros = 0; fits = omega arith; even = native.Mathlib.Nat.one-dvd (w .interval .low); clear = λ z. absurd (go z) }
+    record { zeros = 0; fits = omega arith; even = one-dvd (w .interval .low); clear = λ z. absurd (go z) }
   where
     go : 24 - w .until ≡ 0 → ⊥
     go z = omega (arith, r .fit .few)
 
--- ---- I4: the value of all that is written is the final low end, a fraction of 12 + S bits (8 more with the zero before the code)
+-- ---- the value of all that is written is the final lower end, a fraction of 12 + S bits (8 more with the zero before the code)
 scaled : (v low u z p n : ℕ) → v * 2 ^ u ≡ low * 2 ^ z → p + u ≡ n + z → v * 2 ^ n ≡ low * 2 ^ p
 scaled v low u z p n e h =
-    native.Mathlib.Nat.eq-of-mul-eq-mul-right (2 ^ u) (lib.Pow.pow-pos u) (v * 2 ^ n) (low * 2 ^ p)
-    (native.Mathlib.Nat.mul-right-comm v (2 ^ n) (2 ^ u) ∙ ap (λ (x : ℕ). x * 2 ^ n) e ∙ mul-assoc low (2 ^ z) (2 ^ n)
-    ∙ ap (λ (x : ℕ). low * x) (sym (pow-add 2 z n) ∙ ap (λ (x : ℕ). 2 ^ x) (native.Mathlib.Nat.add-comm z n ∙ sym h) ∙ pow-add 2 p u)
+    eq-of-mul-eq-mul-right (2 ^ u) (pow-pos u) (v * 2 ^ n) (low * 2 ^ p)
+    (mul-right-comm v (2 ^ n) (2 ^ u) ∙ ap (λ (x : ℕ). x * 2 ^ n) e ∙ mul-assoc low (2 ^ z) (2 ^ n)
+    ∙ ap (λ (x : ℕ). low * x) (sym (pow-add 2 z n) ∙ ap (λ (x : ℕ). 2 ^ x) (add-comm z n ∙ sym h) ∙ pow-add 2 p u)
     ∙ sym (mul-assoc low (2 ^ p) (2 ^ u)))
 
 pub value-finish : (w : Registers) (low n : ℕ) → Rest w → Agree w low n → value (bytes (finish w)) * 2 ^ n ≡ low * 2 ^ places 0 (bytes (finish w))

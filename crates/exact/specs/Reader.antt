@@ -1,13 +1,14 @@
 -- The reader: what it sees of a code, beside the writer; on a written code it takes each decision as it was written. Assumes nothing.
 use mathlib.Core.Path.{_≡_, refl, sym, ap, _∙_, subst, subst₂}
 use Prim.Native.Nat.{ℕ, zero, suc, _+_, _-_, _*_, _%_, _^_, _≤_, _<_}
-use native.Mathlib.Nat.{lt-of-mul-lt-mul-right, add-zero, pow-succ'}
+use native.Mathlib.Nat.{lt-of-mul-lt-mul-right, add-zero, pow-succ', mul-le-mul, mod-eq-of-lt, pos-of-ne-zero}
 use native.Mathlib.Omega.{arith}
 use mathlib.Core.Bool.{Bool, true, false, cond, not}
 use mathlib.Core.List.{List, [], _∷_, _++_, append-assoc}
 use lib.ListN.{drop, take, length, getD}
 use lib.Dec.{T, ltb, eqb, ltb→lt, eqb→eq, lt→ltb}
-use lib.Pow.{pow-add, pow-pos}
+use lib.Pow.{pow-add, pow-pos, pow-mono}
+use lib.Arith.{le→nltb}
 use Rattle.ground.specs.Bools.{is-true}
 use Rattle.ground.specs.Tests.{by-cond, by-cond₂, neqb→ne}
 use Rattle.octets.specs.Unit.{unit, unit-pred, unit-zero, unit-pos}
@@ -16,7 +17,7 @@ use Rattle.octets.specs.Fit.{upper, lower, Fit, Rest, Byte, made, bits-few, byt
 use Rattle.exact.specs.Value.{value, places, places-one, places-snoc, value-snoc, places-split, value-split}
 use Rattle.exact.specs.Ahead.{Ahead, ahead-double, Going, going-due, going-shifts, byte-width, byte-settled}
 
--- width: the width. x: the bits of the code that are read, less the low end; look: how many of them lie past the low end's last bit.
+-- width: the width. x: the bits of the code that are read, less the lower end; look: how many of them lie past the lower end's last bit.
 -- last: the byte last read. unread: the bytes to come.
 pub record Sight : Type 0 where
   pub width : ℕ
@@ -25,7 +26,7 @@ pub record Sight : Type 0 where
   pub last : ℕ
   pub unread : List ℕ
 
--- two bytes: 16 bits, or 15 after FF, of which 12 are the low end's
+-- two bytes: 16 bits, or 15 after FF, of which 12 are the lower end's
 abbrev pub opened : List ℕ → Sight
 opened code =
     record { width = 0x1000; x = getD code 0 0 * 2 ^ bits (getD code 0 0) + getD code 1 0; look = bits (getD code 0 0) - 4; last = getD code 1 0; unread = drop 2 code }
@@ -57,7 +58,7 @@ under q r = record { width = q; x = r .x; look = r .look; last = r .last; unread
 abbrev pub taken : ℕ → Bool → Sight → Sight
 taken q e r = cond e (above q r) (under q r)
 
--- ---- what the reader has read: of the bytes from w's on, b and then ys and the last; x is their value less the low end
+-- ---- what the reader has read: of the bytes from w's on, b and then ys and the last; x is their value less the lower end
 pub record Sees (r : Sight) (w : Registers) (all : List ℕ) : Type 0 where
   pub b : ℕ
   pub ys : List ℕ
@@ -91,7 +92,7 @@ place-unit : (p t l : ℕ) → p ≡ 24 - t + l → 2 ^ p ≡ unit t * 2 ^ l
 unfolding unit
 place-unit p t l e = ap (λ (k : ℕ). 2 ^ k) e ∙ pow-add 2 (24 - t) l
 
--- ---- R4: the reader's test
+-- ---- the reader's test tells the pel
 expected-num : (h u c q l x X : ℕ) → 1 ≤ u → (h * u + (c + q)) * (u * l) < (X + 1) * u → x + (h * u + c) * l ≡ X → q * l ≤ x
 expected-num h u c q l x X p k e =
     let m : (h * u + (c + q)) * l * u < (X + 1) * u = omega arith in
@@ -128,7 +129,7 @@ refuses q r w all n g i =
     (subst (λ (y : ℕ). value (g .b ∷ (g .ys ++ (r .last ∷ r .unread))) * unit (w .until) < (w .held * unit (w .until) + w .interval .low + q) * y) e k)
     (g .number)
 
--- R5: x is below the width (`lower (w .interval .width) w` is w)
+-- x is below the width (`lower (w .interval .width) w` is w)
 pub x-bound : (r : Sight) (w : Registers) (all : List ℕ) (n : ℕ) → Sees r w all → Ahead w all n → r .x < w .interval .width * 2 ^ r .look
 x-bound r w all n g i = refuses (w .interval .width) r w all n g i
 
@@ -252,15 +253,15 @@ not-done r w all S f i g z e =
 
 fits : (a l x : ℕ) → a ≤ 8191 → l ≤ 8 → x < a * 2 ^ l → x % 2 ^ 32 ≡ x
 fits a l x h k p =
-    let m : a * 2 ^ l ≤ 8191 * 2 ^ 8 = native.Mathlib.Nat.mul-le-mul h (lib.Pow.pow-mono k) in
-    native.Mathlib.Nat.mod-eq-of-lt (omega arith)
+    let m : a * 2 ^ l ≤ 8191 * 2 ^ 8 = mul-le-mul h (pow-mono k) in
+    mod-eq-of-lt (omega arith)
 
 sees-supplied : (r : Sight) (w : Registers) (all : List ℕ) (S : ℕ) → Rest w → Going (double w) all S → Sees r w all → Supplied (supplied r) w all
 unfolding supplied
 sees-supplied r w all S f i g =
     by-cond (λ (v : Sight). Supplied v w all) (eqb (r .look) 0) (more r) r
     (λ t. go (r .unread) refl (eqb→eq (r .look) 0 t))
-    (λ t. record { sees = g; look = native.Mathlib.Nat.pos-of-ne-zero (neqb→ne (r .look) 0 t) })
+    (λ t. record { sees = g; look = pos-of-ne-zero (neqb→ne (r .look) 0 t) })
   where
     sight : ℕ → ℕ → List ℕ → Sight
     sight x d us = record { width = r .width; x = x; look = r .look + bits (r .last); last = d; unread = us }
@@ -299,7 +300,7 @@ sees-shifts (suc n) r w all S f g =
 -- ---- the whole
 pub decide-true : (q : ℕ) (r : Sight) → q * 2 ^ r .look ≤ r .x → decide q r ≡ true
 unfolding decide
-decide-true q r h = is-true _ (lib.Arith.le→nltb (r .x) (q * 2 ^ r .look) h)
+decide-true q r h = is-true _ (le→nltb (r .x) (q * 2 ^ r .look) h)
 
 pub decide-false : (q : ℕ) (r : Sight) → r .x < q * 2 ^ r .look → decide q r ≡ false
 unfolding decide

@@ -28,7 +28,7 @@ use Rattle.desk.specs.Refusals.{refusal}
 use Rattle.desk.specs.Calls.{openTests, startTable, openPage, reservedPlace, openDesk, leaveTests, learnedPlace, closeDesk, abandonDesk, dropTests, bandOf, writeTests, servedPage, bandDesk, readTests}
 use Rattle.turns.specs.Base.{orElse, none-given}
 use Rattle.ground.specs.Bools.{no-way, both, not-true, neither}
-use Rattle.kept.specs.View.{key-only, K, pageKey, viewPageBy}
+use Rattle.kept.specs.View.{key-only, K, pageKey, viewPageBy, learned-used}
 use Rattle.kept.specs.Sound.{Sound, lawful-sound}
 use Rattle.kept.specs.Bands.{table-lawful, white-clear, last-clear}
 use Rattle.kept.specs.Stored.{Stored, close-stored, abandon-stored, drop-stored, page-stored, new-stored}
@@ -66,7 +66,7 @@ place-table q h l =
         → cond (isUsed (q .state)) (leb (q .state) 2 && (lawfulKey (q .school) (q .class) && cond b (lawfulTable (q .table .entries)) (isZero (q .table .entries)))) (eqb (q .school) 0 && (eqb (q .class) 0 && isZero (q .table .entries))) ≡ true
         → (leb (q .state) 2 && (lawfulKey (q .school) (q .class) && lawfulTable (q .table .entries))) ≡ true
     go false e h = no-way (sym e)
-    go true e h = rw (Rattle.kept.specs.View.learned-used (q .state) l) at h
+    go true e h = rw (learned-used (q .state) l) at h
 
 learned-lawful : (k : Key) (t : Table) → lawfulKey (k .school) (k .class) ≡ true → lawfulTable (t .entries) ≡ true → lawfulPlace (learnedPlace k t) ≡ true
 unfolding lawfulPlace learnedPlace

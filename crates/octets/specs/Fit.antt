@@ -1,14 +1,14 @@
--- Bounds that hold of every reachable state (I1 to I3), and what a byte that is due does to the numbers. Assumes nothing.
+-- Bounds that hold of every state that a band can come to, and what a byte that is due does to the numbers. Assumes nothing.
 use mathlib.Core.Path.{_≡_, refl, sym, ap, _∙_, subst}
 use mathlib.Core.Logic.{_≢_, _⊎_, inl, inr}
-use Prim.Native.Nat.{ℕ, zero, suc, _+_, _-_, _*_, _/_, _%_, _^_, _≤_, _<_}
+use Prim.Native.Nat.{ℕ, zero, suc, _+_, _*_, _/_, _%_, _^_, _≤_, _<_}
 use native.Mathlib.Omega.{arith}
 use mathlib.Core.Bool.{not}
 use mathlib.Core.List.{List, [], _∷_}
-use lib.Pow.{pow-add}
-use lib.Dec.{T, ltb, eqb, ltb→lt, nltb→le}
-use Rattle.ground.specs.Tests.{by-cond, same?, if-eq, if-ne}
-use Rattle.octets.specs.Unit.{unit, unit-pred, unit-zero, unit-eight, unit-seven}
+use lib.Dec.{T, ltb, eqb, ltb→lt, nltb→le, eqb→eq}
+use native.Mathlib.Nat.{pos-of-ne-zero, pow-succ'}
+use Rattle.ground.specs.Tests.{by-cond, same?, if-eq, if-ne, neqb→ne}
+use Rattle.octets.specs.Unit.{unit, unit-scale, unit-pred, unit-zero, unit-eight, unit-seven}
 use Rattle.interval.specs.declared.Interval.{Interval}
 use Rattle.interval.specs.Interval.{Decision, upperPart, lowerPart}
 use Rattle.octets.specs.Octets.{Registers, start, bits, carried, left, byte, due, double, shifts, at, part, pel, run}
@@ -67,11 +67,7 @@ byte-few w = rw (byte-until w) (bits-few (carried (w .held) (w .interval .low)))
 
 -- a unit of the byte that went out is so many of the byte that is then held
 pub byte-scale : (w : Registers) → 2 ^ byte w .until * unit (byte w .until) ≡ 16777216
-unfolding unit
-byte-scale w = sym (pow-add 2 (byte w .until) (24 - byte w .until)) ∙ ap (λ (n : ℕ). 2 ^ n) (all (byte w .until) (byte-few w .1))
-  where
-    all : (t : ℕ) → t ≤ 8 → t + (24 - t) ≡ 24
-    all t h = omega arith
+byte-scale w = unit-scale (byte w .until) (omega (arith, byte-few w))
 
 pub carried-ff : (h c : ℕ) → h ≡ 255 → carried h c ≡ h
 unfolding carried
@@ -180,8 +176,8 @@ pub rest-due : (w : Registers) → Fit w → Rest (due w)
 unfolding due
 rest-due w f =
     by-cond Rest (eqb (w .until) 0) (byte w) w
-    (λ t. record { fit = fit-byte w f (lib.Dec.eqb→eq (w .until) 0 t); wait = omega (arith, byte-few w) })
-    (λ t. record { fit = f; wait = native.Mathlib.Nat.pos-of-ne-zero (Rattle.ground.specs.Tests.neqb→ne (w .until) 0 t) })
+    (λ t. record { fit = fit-byte w f (eqb→eq (w .until) 0 t); wait = omega (arith, byte-few w) })
+    (λ t. record { fit = f; wait = pos-of-ne-zero (neqb→ne (w .until) 0 t) })
 
 pub fit-double : (w : Registers) → Rest w → w .interval .width < 4096 → Fit (double w)
 fit-double w r h =
@@ -219,7 +215,7 @@ ready-shifts (suc n) w r h =
   where
     enough : (n a b : ℕ) → b ≡ 2 * a → 4096 ≤ a * 2 ^ suc n → 4096 ≤ b * 2 ^ n
     enough n a b e h =
-        let k : a * 2 ^ suc n ≡ a * (2 * 2 ^ n) = ap (λ (x : ℕ). a * x) (native.Mathlib.Nat.pow-succ' 2 n) in
+        let k : a * 2 ^ suc n ≡ a * (2 * 2 ^ n) = ap (λ (x : ℕ). a * x) (pow-succ' 2 n) in
         let m : b * 2 ^ n ≡ 2 * a * 2 ^ n = ap (λ (x : ℕ). x * 2 ^ n) e in
         omega arith
 

@@ -24,7 +24,7 @@ lift c xs = record { interval = c .interval; until = c .until; held = c .held; s
 abbrev pub settledOf : Put → List ℕ
 settledOf p = take (p .settled) (p .first ∷ p .second ∷ [])
 
--- a byte made of the held byte h and the low end c, with c at the scale p
+-- a byte made of the held byte h and the lower end c, with c at the scale p
 pub record Out (h c p : ℕ) (v : Byte) : Type 0 where
   pub byte : v .settled ≡ carried h c
   pub bits′ : v .bits ≡ bits (carried h c)
@@ -58,7 +58,7 @@ scale-mod c m p h k =
 pub one-carry : (x p : ℕ) → 1 ≤ p → x < 33554432 * p → x / (16777216 * p) ≤ 1
 one-carry x p h l = let k : x / (16777216 * p) < 2 = div-lt-iff-lt-mul {k = 16777216 * p} {x = x} {y = 2} (omega arith) .1 (omega arith) in omega arith
 
--- the three ways of a byte, with the low end x at the scale p
+-- the three ways of a byte, with the lower end x at the scale p
 module _ (h c p x : ℕ) (some : 1 ≤ p) (is : x ≡ c * p) where
   by-out : (b r k m : ℕ) → carried h c ≡ b → left h c ≡ r → bits b ≡ k → 2 ^ (24 - k) ≡ m → 1 ≤ m
       → Out h c p (record { settled = b; held = r * p / (m * p); low = r * p % (m * p); bits = k })
@@ -101,14 +101,14 @@ small-to-ff x p h = small-by 255 _ 131072 7 p h (omega arith) (omega arith) (ome
 pub small-plain : (b x p : ℕ) → 1 ≤ p → Small p (record { settled = b; held = x % (16777216 * p) / (65536 * p); low = x % (16777216 * p) % (65536 * p); bits = 8 })
 small-plain b x p h = small-by b _ 65536 8 p h (omega arith) (omega arith) (omega (arith, rest-short x p h)) (omega arith) (omega arith)
 
--- what is left of the low end is small enough for the next byte
+-- what is left of the lower end is small enough for the next byte
 pub short-next : (x j i k : ℕ) → k + i ≡ j → k ≤ 8 → x < 131072 * 2 ^ j → x < 33554432 * 2 ^ i
 short-next x j i k e h l =
     let p : 2 ^ j ≡ 2 ^ k * 2 ^ i = ap (λ (n : ℕ). 2 ^ n) (sym e) ∙ pow-add 2 k i in
     let q : 2 ^ k ≤ 256 = pow-mono {i = k} {j = 8} h in
     omega (arith, mul-le-mul-right (2 ^ i) q)
 
--- ---- j shifts are left when the byte goes out: c, a and s are the low end, the width and the count there
+-- ---- j shifts are left when the byte goes out: c, a and s are the lower end, the width and the count there
 abbrev pub there : List ℕ → ℕ → ℕ → ℕ → ℕ → Registers
 there xs c a s h = record { interval = record { low = c; width = a; count = s }; until = 0; held = h; settled = xs }
 

@@ -2,7 +2,7 @@
 -- doublings of a pel may be done in jumps, up to the next byte at once. Assumes nothing.
 use mathlib.Core.Path.{_≡_, refl, sym, ap, _∙_}
 use Prim.Native.Nat.{ℕ, zero, suc, _+_, _-_, _*_, _≤_, _<_}
-use native.Mathlib.Nat.{sub-zero}
+use native.Mathlib.Nat.{sub-zero, suc-add, zero-add}
 use native.Mathlib.Omega.{arith}
 use mathlib.Core.List.{List, [], _∷_, _++_, append-assoc}
 use lib.Dec.{ltb, eqb}
@@ -104,9 +104,9 @@ steps-few (suc k) w h =
 pub steps-byte : (j k : ℕ) (w : Registers) → w .until ≡ suc j → steps (suc j + k) w ≡ steps k (byte (jump (suc j) w))
 unfolding steps
 steps-byte zero k w e =
-    ap (λ (n : ℕ). steps n w) (native.Mathlib.Nat.suc-add 0 k ∙ ap suc (native.Mathlib.Nat.zero-add k)) ∙ ap (steps k) (due-now (double w) (omega arith) ∙ ap byte (sym (jump-zero (double w)) ∙ jump-double 0 w))
+    ap (λ (n : ℕ). steps n w) (suc-add 0 k ∙ ap suc (zero-add k)) ∙ ap (steps k) (due-now (double w) (omega arith) ∙ ap byte (sym (jump-zero (double w)) ∙ jump-double 0 w))
 steps-byte (suc j) k w e =
-    ap (λ (n : ℕ). steps n w) (native.Mathlib.Nat.suc-add (suc j) k) ∙ ap (steps (suc j + k)) (due-not (double w) (omega arith))
+    ap (λ (n : ℕ). steps n w) (suc-add (suc j) k) ∙ ap (steps (suc j + k)) (due-not (double w) (omega arith))
     ∙ steps-byte j k (double w) (omega arith) ∙ ap (λ (v : Registers). steps k (byte v)) (jump-double (suc j) w)
 
 -- the same, for a number of shifts that is not 0

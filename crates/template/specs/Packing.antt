@@ -2,7 +2,7 @@
 use mathlib.Core.Path.{_≡_, refl, sym, ap, ap₂, _∙_, subst}
 use mathlib.Core.Logic.{_≢_, _⊎_, inl, inr}
 use Prim.Native.Nat.{ℕ, zero, suc, _+_, _-_, _*_, _/_, _%_, _^_, _≤_, _<_}
-use native.Mathlib.Nat.{pow-succ', div-div-eq-div-mul, div-add-mod', mul-le-mul-right, lt-of-mul-lt-mul-right}
+use native.Mathlib.Nat.{pow-succ', div-div-eq-div-mul, div-add-mod', mul-le-mul-right, lt-of-mul-lt-mul-right, mod-eq-of-lt}
 use native.Mathlib.Decide.{decLt}
 use native.Mathlib.Omega.{arith}
 use mathlib.Core.List.{List, [], _∷_, _++_}
@@ -157,7 +157,7 @@ module _ (row : List ℕ) (x p : ℕ) (w : Row row x) (fits : x < 2048) (bit : p
   clear-next = go (decLt r 7)
     where
       no-rest : (n : ℕ) → 1 ≤ n → 0 % n ≡ 0
-      no-rest n h = native.Mathlib.Nat.mod-eq-of-lt h
+      no-rest n h = mod-eq-of-lt h
 
       go : Dec (r < 7) → getD next (suc x / 8) 0 % 2 ^ (8 - suc x % 8) ≡ 0
       go (yes h) =

@@ -7,6 +7,7 @@ use mathlib.Core.List.{List, [], _∷_, _++_}
 use lib.ListN.{getD, length, List·getD-append, List·getD-eq-default, length-append}
 use lib.Seq.{getD-append-seam}
 use lib.Dec.{T, ltb, nltb→le}
+use native.Mathlib.Decide.{decLt}
 use Rattle.ground.specs.Tests.{by-cond, if-ge}
 use Rattle.template.specs.declared.Window.{Window}
 use Rattle.template.specs.Pels.{pelAt, pelsTo, leftOf, rightOf, context}
@@ -24,7 +25,7 @@ length-pels row (suc n) = length-append (pelsTo row n) (pelAt row n ∷ []) ∙ 
 pub pels-at : (row : List ℕ) (n x : ℕ) → x < n → getD (pelsTo row n) x 0 ≡ pelAt row x
 unfolding pelsTo
 pels-at row zero x h = absurd (omega arith)
-pels-at row (suc n) x h = go (native.Mathlib.Decide.decLt x n) (λ l. pels-at row n x l)
+pels-at row (suc n) x h = go (decLt x n) (λ l. pels-at row n x l)
   where
     last : x ≡ n → getD (pelsTo row n ++ (pelAt row n ∷ [])) x 0 ≡ pelAt row x
     last e =
@@ -42,7 +43,7 @@ abbrev pub Bits : List ℕ → Type 0
 Bits row = (x : ℕ) → getD row x 0 ≤ 1
 
 pub pels-bits : (row : List ℕ) (n : ℕ) → Bits (pelsTo row n)
-pels-bits row n x = go (native.Mathlib.Decide.decLt x n)
+pels-bits row n x = go (decLt x n)
   where
     go : Dec (x < n) → getD (pelsTo row n) x 0 ≤ 1
     go (yes l) = rw (pels-at row n x l) (pel-bit row x)

@@ -151,32 +151,35 @@ record Shows (run-of : List Ask) (answers : List Answer) (order : List Ask) (aga
   kept : answersOf (serial (service O) (slotRun O (emptyDesk O) run-of)) ≡ again
   served : answersOf (slotRun O (emptyDesk O) order) ≡ again
 
--- A look of the same key between open and close sees the old table and stands before the page; a refused band is struck out; the page of b moves before that of a.
-looked : Shows
-    (opens a ∷ writes a 3 ∷ closes a ∷ opens a ∷ opens b ∷ writes a 6 ∷ looks a ∷ writes a 0 ∷ writes b 4 ∷ writes a 7 ∷ closes b ∷ closes a ∷ [])
-    ((0, []) ∷ (0, 3 ∷ []) ∷ (0, []) ∷ (0, []) ∷ (0, []) ∷ (0, 3 ∷ 6 ∷ []) ∷ (0, 3 ∷ []) ∷ (10, []) ∷ (0, 4 ∷ []) ∷ (0, 3 ∷ 6 ∷ 7 ∷ []) ∷ (0, []) ∷ (0, []) ∷ [])
-    (opens a ∷ writes a 3 ∷ closes a ∷ looks a ∷ opens b ∷ writes b 4 ∷ closes b ∷ opens a ∷ writes a 6 ∷ writes a 7 ∷ closes a ∷ [])
-    ((0, []) ∷ (0, 3 ∷ []) ∷ (0, []) ∷ (0, 3 ∷ []) ∷ (0, []) ∷ (0, 4 ∷ []) ∷ (0, []) ∷ (0, []) ∷ (0, 3 ∷ 6 ∷ []) ∷ (0, 3 ∷ 6 ∷ 7 ∷ []) ∷ (0, []) ∷ [])
-unfolding slotRun slotStep slotSettle slotAdmit slotStore noSlot noClassPlace frees find erase replace insert update updateBy free actGate actKind serial serialFrom servesAs waitsAs calls answersOf nameOf kindOf gateOf serveOf finishOf lookOf dropOf changeOf
-looked = record { answered = refl; ordered = refl; kept = refl; served = refl }
+record Runs : Type 0 where
+  -- A look of the same key between open and close sees the old table and stands before the page; a refused band is struck out; the page of b moves before that of a.
+  looked : Shows
+      (opens a ∷ writes a 3 ∷ closes a ∷ opens a ∷ opens b ∷ writes a 6 ∷ looks a ∷ writes a 0 ∷ writes b 4 ∷ writes a 7 ∷ closes b ∷ closes a ∷ [])
+      ((0, []) ∷ (0, 3 ∷ []) ∷ (0, []) ∷ (0, []) ∷ (0, []) ∷ (0, 3 ∷ 6 ∷ []) ∷ (0, 3 ∷ []) ∷ (10, []) ∷ (0, 4 ∷ []) ∷ (0, 3 ∷ 6 ∷ 7 ∷ []) ∷ (0, []) ∷ (0, []) ∷ [])
+      (opens a ∷ writes a 3 ∷ closes a ∷ looks a ∷ opens b ∷ writes b 4 ∷ closes b ∷ opens a ∷ writes a 6 ∷ writes a 7 ∷ closes a ∷ [])
+      ((0, []) ∷ (0, 3 ∷ []) ∷ (0, []) ∷ (0, 3 ∷ []) ∷ (0, []) ∷ (0, 4 ∷ []) ∷ (0, []) ∷ (0, []) ∷ (0, 3 ∷ 6 ∷ []) ∷ (0, 3 ∷ 6 ∷ 7 ∷ []) ∷ (0, []) ∷ [])
+  -- An abandoned page goes with all its calls, and its class learns nothing (the look is refused 11); pages never closed go too; a closing refused 17 leaves its page open.
+  struck : Shows
+      (opens a ∷ writes a 3 ∷ opens b ∷ writes b 4 ∷ opens c ∷ abandons a ∷ looks a ∷ opens a ∷ closes a ∷ writes a 5 ∷ closes a ∷ opens c ∷ writes c 9 ∷ writes b 6 ∷ opens x ∷ [])
+      ((0, []) ∷ (0, 3 ∷ []) ∷ (0, []) ∷ (0, 4 ∷ []) ∷ (4, []) ∷ (0, []) ∷ (11, []) ∷ (0, []) ∷ (17, []) ∷ (0, 5 ∷ []) ∷ (0, []) ∷ (0, []) ∷ (0, 9 ∷ []) ∷ (0, 4 ∷ 6 ∷ []) ∷ (1, []) ∷ [])
+      (opens a ∷ writes a 5 ∷ closes a ∷ [])
+      ((0, []) ∷ (0, 5 ∷ []) ∷ (0, []) ∷ [])
+  -- A drop between two pages keeps its place; a drop while the page is open is refused 3; an import keeps its place; a fourth class has no place (5).
+  dropped : Shows
+      (opens a ∷ writes a 3 ∷ drops a ∷ closes a ∷ opens b ∷ writes b 1 ∷ drops a ∷ opens a ∷ writes a 2 ∷ imports c (8 ∷ []) ∷ closes b ∷ closes a ∷ opens d ∷ looks a ∷ looks c ∷ [])
+      ((0, []) ∷ (0, 3 ∷ []) ∷ (3, []) ∷ (0, []) ∷ (0, []) ∷ (0, 1 ∷ []) ∷ (0, []) ∷ (0, []) ∷ (0, 2 ∷ []) ∷ (0, []) ∷ (0, []) ∷ (0, []) ∷ (5, []) ∷ (0, 2 ∷ []) ∷ (0, 8 ∷ []) ∷ [])
+      (opens a ∷ writes a 3 ∷ closes a ∷ drops a ∷ imports c (8 ∷ []) ∷ opens b ∷ writes b 1 ∷ closes b ∷ opens a ∷ writes a 2 ∷ closes a ∷ looks a ∷ looks c ∷ [])
+      ((0, []) ∷ (0, 3 ∷ []) ∷ (0, []) ∷ (0, []) ∷ (0, []) ∷ (0, []) ∷ (0, 1 ∷ []) ∷ (0, []) ∷ (0, []) ∷ (0, 2 ∷ []) ∷ (0, []) ∷ (0, 2 ∷ []) ∷ (0, 8 ∷ []) ∷ [])
 
--- An abandoned page goes with all its calls, and its class learns nothing (the look is refused 11); pages never closed go too; a closing refused 17 leaves its page open.
-struck : Shows
-    (opens a ∷ writes a 3 ∷ opens b ∷ writes b 4 ∷ opens c ∷ abandons a ∷ looks a ∷ opens a ∷ closes a ∷ writes a 5 ∷ closes a ∷ opens c ∷ writes c 9 ∷ writes b 6 ∷ opens x ∷ [])
-    ((0, []) ∷ (0, 3 ∷ []) ∷ (0, []) ∷ (0, 4 ∷ []) ∷ (4, []) ∷ (0, []) ∷ (11, []) ∷ (0, []) ∷ (17, []) ∷ (0, 5 ∷ []) ∷ (0, []) ∷ (0, []) ∷ (0, 9 ∷ []) ∷ (0, 4 ∷ 6 ∷ []) ∷ (1, []) ∷ [])
-    (opens a ∷ writes a 5 ∷ closes a ∷ [])
-    ((0, []) ∷ (0, 5 ∷ []) ∷ (0, []) ∷ [])
+-- computed: every definition that a run comes through is opened
+shown : Runs
 unfolding slotRun slotStep slotSettle slotAdmit slotStore noSlot noClassPlace frees find erase replace insert update updateBy free actGate actKind serial serialFrom servesAs waitsAs calls answersOf nameOf kindOf gateOf serveOf finishOf lookOf dropOf changeOf
-struck = record { answered = refl; ordered = refl; kept = refl; served = refl }
-
--- A drop between two pages keeps its place; a drop while the page is open is refused 3; an import keeps its place; a fourth class has no place (5).
-dropped : Shows
-    (opens a ∷ writes a 3 ∷ drops a ∷ closes a ∷ opens b ∷ writes b 1 ∷ drops a ∷ opens a ∷ writes a 2 ∷ imports c (8 ∷ []) ∷ closes b ∷ closes a ∷ opens d ∷ looks a ∷ looks c ∷ [])
-    ((0, []) ∷ (0, 3 ∷ []) ∷ (3, []) ∷ (0, []) ∷ (0, []) ∷ (0, 1 ∷ []) ∷ (0, []) ∷ (0, []) ∷ (0, 2 ∷ []) ∷ (0, []) ∷ (0, []) ∷ (0, []) ∷ (5, []) ∷ (0, 2 ∷ []) ∷ (0, 8 ∷ []) ∷ [])
-    (opens a ∷ writes a 3 ∷ closes a ∷ drops a ∷ imports c (8 ∷ []) ∷ opens b ∷ writes b 1 ∷ closes b ∷ opens a ∷ writes a 2 ∷ closes a ∷ looks a ∷ looks c ∷ [])
-    ((0, []) ∷ (0, 3 ∷ []) ∷ (0, []) ∷ (0, []) ∷ (0, []) ∷ (0, []) ∷ (0, 1 ∷ []) ∷ (0, []) ∷ (0, []) ∷ (0, 2 ∷ []) ∷ (0, []) ∷ (0, 2 ∷ []) ∷ (0, 8 ∷ []) ∷ [])
-unfolding slotRun slotStep slotSettle slotAdmit slotStore noSlot noClassPlace frees find erase replace insert update updateBy free actGate actKind serial serialFrom servesAs waitsAs calls answersOf nameOf kindOf gateOf serveOf finishOf lookOf dropOf changeOf
-dropped = record { answered = refl; ordered = refl; kept = refl; served = refl }
+shown =
+    record {
+      looked = record { answered = refl; ordered = refl; kept = refl; served = refl };
+      struck = record { answered = refl; ordered = refl; kept = refl; served = refl };
+      dropped = record { answered = refl; ordered = refl; kept = refl; served = refl };
+    }
 
 -- the theorem, for this office
 toy-serialisation : (cs : List Ask) → Served O (newDesk O) (serial (service O) (run O (newDesk O) cs)) (after O (newDesk O) cs)
