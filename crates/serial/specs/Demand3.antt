@@ -7,7 +7,7 @@ use mathlib.Core.Bool.{Bool, false}
 use mathlib.Core.List.{List}
 use Rattle.turns.specs.Service.{Entry, calls}
 use Rattle.turns.specs.Serial.{serial, Whole}
-use Rattle.turns.specs.Sense.{standing, in-order, ofKey, one-key}
+use Rattle.turns.specs.Order.{standing, in-order, ofKey, one-key}
 use Rattle.turns.specs.Strike.{strike, count, nothing-lost}
 use Rattle.turns.specs.Accepted.{AllAccepted, whole-accepted}
 use Rattle.turns.specs.Office.{Cell}

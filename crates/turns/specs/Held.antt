@@ -4,7 +4,7 @@ use mathlib.Core.Bool.{true, false}
 use mathlib.Core.List.{List, [], _∷_, _++_, append-assoc}
 use mathlib.Core.Option.{Option, none}
 use Prim.Native.Nat.{_<_}
-use Rattle.turns.specs.Service.{keys, Entry, calls}
+use Rattle.turns.specs.Service.{keys, Entry, calls, Service, Keys}
 use Rattle.turns.specs.Office.{Cell, accept, Office, cell, service}
 use Rattle.turns.specs.Desk.{given, hasPage, hasPlace, Desk, store, noPage, noPlace, run, after}
 use Rattle.turns.specs.Serial.{page}
@@ -14,6 +14,12 @@ use Rattle.turns.specs.Steps.{done, run-accepts, after-accepts, store-ag
 module _ (O : Office) where
   open Office O using (Key, Table, Page, Call, Output, key, act, pages, places)
 
+  abbrev S : Service
+  S = service O
+
+  abbrev K : Keys
+  K = keys S
+
   -- A desk at which the key has no page, this learned table, and room for a page.
   pub record Ready (s : Desk O) (k : Key) (t : Option Table) : Type 0 where
     pub at : s .cells k ≡ cell t none
@@ -21,9 +27,9 @@ module _ (O : Office) where
     pub place-room : given t ≡ false → s .placesTaken < places
 
   -- The calls of an open page, served again at any ready desk with the same learned table, answer the same and leave the cell x.
-  pub record Held (k : Key) (t : Option Table) (es : List (Entry (service O))) (x : Cell Table Page) : Type 0 where
-    pub same-run : (s : Desk O) (rest : List Call) → Ready s k t → run O s (calls (service O) es ++ rest) ≡ es ++ run O (store O s k x) rest
-    pub same-end : (s : Desk O) (rest : List Call) → Ready s k t → after O s (calls (service O) es ++ rest) ≡ after O (store O s k x) rest
+  pub record Held (k : Key) (t : Option Table) (es : List (Entry S)) (x : Cell Table Page) : Type 0 where
+    pub same-run : (s : Desk O) (rest : List Call) → Ready s k t → run O s (calls S es ++ rest) ≡ es ++ run O (store O s k x) rest
+    pub same-end : (s : Desk O) (rest : List Call) → Ready s k t → after O s (calls S es ++ rest) ≡ after O (store O s k x) rest
 
   -- an opening
   pub held-first : (c : Call) (o : Output) (t : Option Table) (y : Cell Table Page) → act c (cell t none) ≡ accept o y → y .learned ≡ t → given (y .page) ≡ true → Held (key c) t (done O c o ∷ []) y
@@ -40,15 +46,15 @@ module _ (O : Office) where
       no-place s r = place-by O s (key c) y t (r .at) (r .place-room)
 
   -- one call more on the open page: a band, or the closing
-  pub held-more : (c : Call) (o : Output) (t : Option Table) (es : List (Entry (service O))) (x y : Cell Table Page) → Held (key c) t es x → given (x .page) ≡ true → act c x ≡ accept o y → Held (key c) t (es ++ (done O c o ∷ [])) y
+  pub held-more : (c : Call) (o : Output) (t : Option Table) (es : List (Entry S)) (x y : Cell Table Page) → Held (key c) t es x → given (x .page) ≡ true → act c x ≡ accept o y → Held (key c) t (es ++ (done O c o ∷ [])) y
   unfolding calls store
   held-more c o t es x y h g e = record {
-    same-run = λ s rest r. rw (calls-append (service O) es (done O c o ∷ []), append-assoc (calls (service O) es) (c ∷ []) rest, h .same-run s (c ∷ rest) r, one-run s rest r) (sym (append-assoc es (done O c o ∷ []) (run O (store O s (key c) y) rest)));
-    same-end = λ s rest r. rw (calls-append (service O) es (done O c o ∷ []), append-assoc (calls (service O) es) (c ∷ []) rest, h .same-end s (c ∷ rest) r) (one-end s rest r);
+    same-run = λ s rest r. rw (calls-append S es (done O c o ∷ []), append-assoc (calls S es) (c ∷ []) rest, h .same-run s (c ∷ rest) r, one-run s rest r) (sym (append-assoc es (done O c o ∷ []) (run O (store O s (key c) y) rest)));
+    same-end = λ s rest r. rw (calls-append S es (done O c o ∷ []), append-assoc (calls S es) (c ∷ []) rest, h .same-end s (c ∷ rest) r) (one-end s rest r);
   }
     where
       at : (s : Desk O) → store O s (key c) x .cells (key c) ≡ x
-      at s = put-self (keys (service O)) (key c) x (s .cells)
+      at s = put-self K (key c) x (s .cells)
 
       there : (s : Desk O) → given (store O s (key c) x .cells (key c) .page) ≡ true
       there s = rw (at s) g

@@ -8,7 +8,7 @@ pub mod Steps
 pub mod Held
 pub mod Tally
 pub mod Turns
-pub mod Sense
+pub mod Order
 pub mod Strike
 pub mod Slots
 pub mod Rows

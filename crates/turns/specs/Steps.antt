@@ -8,7 +8,7 @@ use native.Mathlib.Omega.{arith}
 use lib.Dec.{leb}
 use borrow.Author.Tests.{lt-leb}
 use Rattle.ground.specs.Bools.{no-way, and-false}
-use Rattle.turns.specs.Service.{accepted, refused, crowded, keys, put, Entry}
+use Rattle.turns.specs.Service.{accepted, refused, crowded, keys, put, Entry, Service, Keys}
 use Rattle.turns.specs.Office.{Cell, Result, refuse, accept, Office, cell, service}
 use Rattle.turns.specs.Desk.{given, one, hasPage, hasPlace, Desk, Outcome, store, noPage, noPlace, admit, settle, step, run, after}
 use Rattle.turns.specs.Serial.{page}
@@ -19,6 +19,12 @@ num-again a q p h = omega arith
 
 module _ (O : Office) where
   open Office O using (Key, Table, Page, Call, Output, key, act, pages, places)
+
+  abbrev S : Service
+  S = service O
+
+  abbrev K : Keys
+  K = keys S
 
   -- what one call can come to
   pub data Step (d : Desk O) (c : Call) : Outcome O → Type 0 where
@@ -46,7 +52,7 @@ module _ (O : Office) where
   unfolding step settle admit
   step-accepts d c o y e f g = rw (e, f, g)
 
-  abbrev pub done : Call → Output → Entry (service O)
+  abbrev pub done : Call → Output → Entry S
   done c o = record { call = c; mark = accepted; output = o }
 
   pub run-accepts : (d : Desk O) (c : Call) (o : Output) (y : Cell Table Page) (rest : List Call) → act c (d .cells (key c)) ≡ accept o y → noPage O d (key c) y ≡ false → noPlace O d (key c) y ≡ false
@@ -63,16 +69,16 @@ module _ (O : Office) where
   pub store-again : (s : Desk O) (k : Key) (x y : Cell Table Page) → given (s .cells k .page) ≡ false → given (x .page) ≡ true → store O (store O s k x) k y ≡ store O s k y
   unfolding store
   store-again s k x y n h = λ i. record {
-    cells = put-put (keys (service O)) k x y (s .cells) i;
+    cells = put-put K k x y (s .cells) i;
     pagesOpen = p i;
     placesTaken = q i;
   }
     where
-      p : s .pagesOpen + one (hasPage x) - one (hasPage (s .cells k)) + one (hasPage y) - one (hasPage (put (keys (service O)) k x (s .cells) k)) ≡ s .pagesOpen + one (hasPage y) - one (hasPage (s .cells k))
-      p = rw (put-self (keys (service O)) k x (s .cells), h, n) (omega arith)
+      p : s .pagesOpen + one (hasPage x) - one (hasPage (s .cells k)) + one (hasPage y) - one (hasPage (put K k x (s .cells) k)) ≡ s .pagesOpen + one (hasPage y) - one (hasPage (s .cells k))
+      p = rw (put-self K k x (s .cells), h, n) (omega arith)
 
-      q : s .placesTaken + one (hasPlace x) - one (hasPlace (s .cells k)) + one (hasPlace y) - one (hasPlace (put (keys (service O)) k x (s .cells) k)) ≡ s .placesTaken + one (hasPlace y) - one (hasPlace (s .cells k))
-      q = rw (put-self (keys (service O)) k x (s .cells), placed-page (x .learned) (x .page) h) (num-again (s .placesTaken) (one (hasPlace (s .cells k))) (one (hasPlace y)) (one-le (hasPlace (s .cells k))))
+      q : s .placesTaken + one (hasPlace x) - one (hasPlace (s .cells k)) + one (hasPlace y) - one (hasPlace (put K k x (s .cells) k)) ≡ s .placesTaken + one (hasPlace y) - one (hasPlace (s .cells k))
+      q = rw (put-self K k x (s .cells), placed-page (x .learned) (x .page) h) (num-again (s .placesTaken) (one (hasPlace (s .cells k))) (one (hasPlace y)) (one-le (hasPlace (s .cells k))))
 
   -- room is there where none more is wanted, or where the count is below the limit
   pub page-open : (s : Desk O) (k : Key) (y : Cell Table Page) → given (s .cells k .page) ≡ true → noPage O s k y ≡ false
