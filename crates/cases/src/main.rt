@@ -6,55 +6,26 @@ use desk::Direction;
 use desk::Key;
 use desk::Opening;
 use desk::Outcome;
-use libc::STDOUT_FILENO;
-
-const DIGITS: [u8; 16] = *b"0123456789ABCDEF";
-
-fn put_text(text: &[u8]) {
-    io::write_all(STDOUT_FILENO, text);
-}
-
-fn put_hex(b: u8) {
-    let text = [b' ', DIGITS[(b / 16) as usize], DIGITS[(b % 16) as usize]];
-    put_text(&text);
-}
-
-fn put_all(bytes: &[u8]) {
-    let mut i: usize = 0;
-    while i < bytes.len() {
-        put_hex(bytes[i]);
-        i += 1;
-    }
-}
 
 // The contexts whose byte is not 00.
 fn put_contexts(table: &[u8]) {
     let mut i: usize = 0;
     while i < table.len() {
         if table[i] != 0 {
-            put_text(b", context ");
-            io::print_decimal(STDOUT_FILENO, i as u64);
-            put_text(b" is");
-            put_hex(table[i]);
+            lines::put_text(b", context ");
+            lines::put_number(i as u64);
+            lines::put_text(b" is");
+            lines::put_hex(table[i]);
         }
         i += 1;
     }
-    put_text(b", elsewhere 00");
-}
-
-fn put_answer(name: &[u8], a: Answer) {
-    put_text(name);
-    put_text(b": answer ");
-    io::print_decimal(STDOUT_FILENO, a.number);
-    put_text(b", length ");
-    io::print_decimal(STDOUT_FILENO, a.length);
-    put_text(b", S ");
-    io::print_decimal(STDOUT_FILENO, a.shifts);
+    lines::put_text(b", elsewhere 00");
 }
 
 fn line(name: &[u8], a: Answer) {
-    put_answer(name, a);
-    put_text(b"\n");
+    lines::put_text(name);
+    lines::put_answer(a);
+    lines::put_text(b"\n");
 }
 
 fn key_of(school: u64, class: u64) -> Key {
@@ -127,20 +98,22 @@ fn one_more(name: &[u8], n: u64, closed: bool) {
 // P1 into a buffer, which is then shown.
 fn buffer_line(name: &[u8], out: &mut [u8]) {
     let wrote = write_band(new_page(), key_of(1, 1), 1, b"\x00", out);
-    put_answer(name, wrote.answer);
-    put_text(b", buffer");
-    put_all(out);
-    put_text(b"\n");
+    lines::put_text(name);
+    lines::put_answer(wrote.answer);
+    lines::put_text(b", buffer");
+    lines::put_bytes(out);
+    lines::put_text(b"\n");
 }
 
 // One band of one row, its code shown; the desk after it.
 fn code_line(name: &[u8], d: Desk, key: Key, pels: &[u8]) -> Desk {
     let mut out = [0u8; 8];
     let wrote = write_band(d, key, 1, pels, &mut out);
-    put_answer(name, wrote.answer);
-    put_text(b", code");
-    put_all(store::front_of(&out, wrote.answer.length as usize));
-    put_text(b"\n");
+    lines::put_text(name);
+    lines::put_answer(wrote.answer);
+    lines::put_text(b", code");
+    lines::put_bytes(store::front_of(&out, wrote.answer.length as usize));
+    lines::put_text(b"\n");
     wrote.desk
 }
 
@@ -163,9 +136,10 @@ fn look_line(name: &[u8], d: Desk) {
     let mut out = [255u8; 128];
     let closed = calls::close(d, key_of(1, 1));
     let seen = calls::look(closed.desk, key_of(1, 1), &mut out);
-    put_answer(name, seen.answer);
+    lines::put_text(name);
+    lines::put_answer(seen.answer);
     put_contexts(&out);
-    put_text(b"\n");
+    lines::put_text(b"\n");
 }
 
 fn looks() {

@@ -1,15 +1,15 @@
 -- The reader of any coder, and over any model: what is written is read back, no two bands have one code, and one comparison tells whether
 -- any band was written so. Assumes nothing.
 use mathlib.Core.Path.{_≡_, refl, sym, ap, ap₂, _∙_, subst}
-use mathlib.Core.Logic.{_≢_, _⊎_, inl, inr, _↔_}
-use Prim.Native.Nat.{ℕ, zero, suc, _+_, _-_, _≤_}
+use mathlib.Core.Logic.{_≢_, _⊎_, inl, inr}
+use Prim.Native.Nat.{ℕ, zero, suc, _-_, _≤_}
 use native.Mathlib.Omega.{arith}
 use mathlib.Core.Bool.{Bool, true, false, cond}
 use mathlib.Core.List.{List, [], _∷_}
 use lib.ListN.{length}
 use lib.Dec.{eqb}
 use Rattle.ground.specs.Tests.{same?, if-eq, if-ne}
-use Rattle.coder.specs.Writing.{Writer, Model, Stage, step, after, opening, bandCode, bandModel, AllPels}
+use Rattle.coder.specs.Writing.{Writer, Model, Stage, step, after, opening, bandCode, AllPels}
 
 -- A reader: from a code; is the pel of the size q the expected one; go on after it; was there a shift.
 pub record Reader : Type 1 where
@@ -58,16 +58,6 @@ module _ (A : Model) where
         let e : Bool = R .ask (A .size m) r in
         let p : ℕ = pelOf (A .sense m) e in
         p ∷ readPels n (A .move m p (R .moves (A .size m) e r)) (R .take (A .size m) e r)
-
-    pub read-length : (n : ℕ) (m : A .State) (r : R .State) → length (readPels n m r) ≡ n
-    unfolding readPels
-    read-length zero m r = refl
-    read-length (suc n) m r = ap suc (read-length n _ _)
-
-    pub read-pels : ((m : A .State) → A .sense m ≤ 1) → (n : ℕ) (m : A .State) (r : R .State) → AllPels (readPels n m r)
-    unfolding readPels
-    read-pels bit zero m r = tt
-    read-pels bit (suc n) m r = (pelOf-bit (A .sense m) (R .ask (A .size m) r) (bit m), read-pels bit n _ _)
 
   -- ---- the round trip
   module _ (W : Writer) (R : Reader) (Sized : ℕ → Type 0) (K : Coder W R Sized) (sized : (m : A .State) → Sized (A .size m)) (bit : (m : A .State) → A .sense m ≤ 1) where

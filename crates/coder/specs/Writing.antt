@@ -1,7 +1,7 @@
 -- Any binary arithmetic coder whose sizes are given from outside, and over it any model that adapts: how a band is written. Assumes nothing.
-use mathlib.Core.Path.{_≡_, refl, sym, ap, _∙_}
-use Prim.Native.Nat.{ℕ, zero, suc, _+_, _-_, _≤_}
-use mathlib.Core.Bool.{Bool, true, false, cond}
+use mathlib.Core.Path.{_≡_, refl}
+use Prim.Native.Nat.{ℕ, _≤_}
+use mathlib.Core.Bool.{Bool}
 use mathlib.Core.List.{List, [], _∷_, _++_}
 use lib.Dec.{eqb}
 
@@ -57,13 +57,6 @@ module _ (A : Model) (W : Writer) where
   unfolding after
   after-append [] qs s = refl
   after-append (p ∷ ps) qs s = after-append ps qs (step s p)
-
-  -- what every put keeps, a band keeps
-  pub kept : (Sized : ℕ → Type 0) (P : W .State → Type 0) → ((q : ℕ) (e : Bool) (w : W .State) → Sized q → P w → P (W .put q e w)) → ((m : A .State) → Sized (A .size m))
-      → (ps : List ℕ) (s : Stage A W) → P (s .writer) → P (after s ps .writer)
-  unfolding after
-  kept Sized P put sized [] s h = h
-  kept Sized P put sized (p ∷ ps) s h = kept Sized P put sized ps (step s p) (put (A .size (s .model)) (eqb p (A .sense (s .model))) (s .writer) (sized (s .model)) h)
 
 -- a list of pels: each is 0 or 1
 abbrev pub AllPels : List ℕ → Type 0

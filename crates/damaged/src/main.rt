@@ -4,26 +4,6 @@ use desk::Desk;
 use desk::Direction;
 use desk::Key;
 use desk::Opening;
-use libc::STDOUT_FILENO;
-
-const DIGITS: [u8; 16] = *b"0123456789ABCDEF";
-
-fn put_text(text: &[u8]) {
-    io::write_all(STDOUT_FILENO, text);
-}
-
-fn put_hex(b: u8) {
-    let text = [b' ', DIGITS[(b / 16) as usize], DIGITS[(b % 16) as usize]];
-    put_text(&text);
-}
-
-fn put_all(bytes: &[u8]) {
-    let mut i: usize = 0;
-    while i < bytes.len() {
-        put_hex(bytes[i]);
-        i += 1;
-    }
-}
 
 fn the_key() -> Key {
     Key {
@@ -52,17 +32,12 @@ fn line(name: &[u8], d: Desk, code: &[u8]) -> Desk {
         rows: 1,
     };
     let read = calls::read(d, ask, code, &mut out);
-    put_text(name);
-    put_all(code);
-    put_text(b": answer ");
-    io::print_decimal(STDOUT_FILENO, read.answer.number);
-    put_text(b", length ");
-    io::print_decimal(STDOUT_FILENO, read.answer.length);
-    put_text(b", S ");
-    io::print_decimal(STDOUT_FILENO, read.answer.shifts);
-    put_text(b", buffer");
-    put_all(&out);
-    put_text(b"\n");
+    lines::put_text(name);
+    lines::put_bytes(code);
+    lines::put_answer(read.answer);
+    lines::put_text(b", buffer");
+    lines::put_bytes(&out);
+    lines::put_text(b"\n");
     read.desk
 }
 

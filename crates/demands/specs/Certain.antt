@@ -10,7 +10,7 @@ use Rattle.desk.specs.declared.Desk.{Desk}
 use Rattle.desk.specs.declared.Outcome.{Outcome}
 use Rattle.desk.specs.Places.{pageFound, pageAt}
 use Rattle.desk.specs.Calls.{openSpec, closeSpec, abandonSpec, dropSpec, lookSpec, lookLent, writeSpec, writeLent, readSpec, readLent, ReadOutcome}
-use Rattle.serial.specs.Run.{Call, opens, writes, reads, closes, abandons, drops, looks, Step, stepOf, step, foundIn}
+use Rattle.serial.specs.Run.{Call, opens, writes, reads, closes, abandons, drops, looks, stepOf, step, foundIn}
 use Rattle.demands.specs.Reading.{right, reading, read-certain}
 
 -- what each call's contract allows: an answer with the desk after it, and the lent buffer after it (empty where none is lent)

@@ -1,6 +1,6 @@
 -- What is found in a code, said with the writer's definition alone: among all bands of that width and height, the one that is written
 -- as those bytes. And what follows for a read at the desk: it has one outcome. Assumes nothing.
-use mathlib.Core.Path.{_≡_, refl, ap, ap₂, _∙_}
+use mathlib.Core.Path.{_≡_, refl, sym, ap, ap₂, _∙_}
 use mathlib.Core.Bool.{Bool, true, false, _&&_}
 use mathlib.Core.Option.{Option, some, none}
 use mathlib.Core.List.{List, [], _∷_}
@@ -10,9 +10,9 @@ use native.Mathlib.Omega.{arith}
 use lib.Dec.{eqb, eqb-refl}
 use lib.ListN.{length}
 use borrow.Author.Tests.{eqb-true}
-use Rattle.ground.specs.Tests.{is-true}
+use Rattle.ground.specs.Bools.{is-true, no-way, both}
 use Rattle.template.specs.Pels.{rowBytes, bandPadded}
-use Rattle.band.specs.Band.{written, IsBand, Right}
+use Rattle.band.specs.Band.{written, Right}
 use Rattle.reader.specs.Unique.{no-two}
 use Rattle.desk.specs.declared.Ask.{Ask}
 use Rattle.desk.specs.declared.Desk.{Desk}
@@ -37,15 +37,11 @@ writtenSo width rows table last code band = bandPadded width band rows && sameBy
 unfoldable pub readBack : ℕ → ℕ → List ℕ → List ℕ → List ℕ → Option (List ℕ)
 readBack width rows table last code = search 255 (rows * rowBytes width) (writtenSo width rows table last code)
 
-both : (x y : Bool) → (x && y) ≡ true → (x ≡ true) × (y ≡ true)
-both true y e = (refl, e)
-both false y e = let z : _≡_ {A = ℕ} 0 1 = cc in absurd (omega arith)
-
 same-bytes : (a b : List ℕ) → sameBytes a b ≡ true → a ≡ b
 unfolding sameBytes
 same-bytes [] [] e = refl
-same-bytes [] (y ∷ b) e = let z : _≡_ {A = ℕ} 0 1 = cc in absurd (omega arith)
-same-bytes (x ∷ a) [] e = let z : _≡_ {A = ℕ} 0 1 = cc in absurd (omega arith)
+same-bytes [] (y ∷ b) e = no-way (sym e)
+same-bytes (x ∷ a) [] e = no-way (sym e)
 same-bytes (x ∷ a) (y ∷ b) e =
     let k = both (eqb x y) (sameBytes a b) e in
     ap₂ (λ (z : ℕ) (l : List ℕ). z ∷ l) (eqb-true x y (k .0)) (same-bytes a b (k .1))

@@ -7,14 +7,12 @@ use Prim.Native.Nat.{ℕ, zero, suc, _≤_, _<_}
 use native.Mathlib.Decide.{decLt}
 use native.Mathlib.Omega.{arith}
 use lib.ListN.{getD, length}
-
-true-false : _≡_ {A = Bool} true false → ⊥
-true-false e = let z : _≡_ {A = ℕ} 0 1 = cc in absurd (omega arith)
+use Rattle.ground.specs.Bools.{no-way}
 
 -- the first that is there
-unfoldable pub orElse : Option (List ℕ) → Option (List ℕ) → Option (List ℕ)
-orElse (some l) p = some l
-orElse none p = p
+unfoldable pub firstOf : Option (List ℕ) → Option (List ℕ) → Option (List ℕ)
+firstOf (some l) p = some l
+firstOf none p = p
 
 -- a byte before a list
 unfoldable pub before : ℕ → Option (List ℕ) → Option (List ℕ)
@@ -24,7 +22,7 @@ before v none = none
 -- what is found for one of the values below m
 unfoldable pub values : ℕ → (ℕ → Option (List ℕ)) → Option (List ℕ)
 values zero f = none
-values (suc m) f = orElse (values m f) (f m)
+values (suc m) f = firstOf (values m f) (f m)
 
 -- a list of n numbers up to top that the test takes
 unfoldable pub search : ℕ → ℕ → (List ℕ → Bool) → Option (List ℕ)
@@ -48,8 +46,8 @@ module _ (top : ℕ) where
     At v (some l) = (length l ≡ suc n) × ((i : ℕ) → getD l i 0 ≤ top) × (test l ≡ true)
     At v none = (l : List ℕ) → length l ≡ n → ((i : ℕ) → getD l i 0 ≤ top) → test (v ∷ l) ≡ true → ⊥
 
-    join : (m : ℕ) (o p : Option (List ℕ)) → Below m o → At m p → Below (suc m) (orElse o p)
-    unfolding orElse
+    join : (m : ℕ) (o p : Option (List ℕ)) → Below m o → At m p → Below (suc m) (firstOf o p)
+    unfolding firstOf
     join m (some l) p a b = a
     join m none (some l) a b = b
     join m none none a b = λ v l h. go v l h (decLt v m)
@@ -93,7 +91,7 @@ module _ (top : ℕ) where
       go false e = all
         where
           all : (l : List ℕ) → length l ≡ 0 → ((i : ℕ) → getD l i 0 ≤ top) → test l ≡ true → ⊥
-          all [] s o t = true-false (sym t ∙ e)
+          all [] s o t = no-way (sym t ∙ e)
           all (v ∷ l) s o t = absurd (omega arith)
   found (suc n) test = whole n test (values (suc top) f) (below n test (suc top) f (λ v h. lead n test v (search top n (λ l. test (v ∷ l))) (omega arith) (found n (λ l. test (v ∷ l)))))
     where

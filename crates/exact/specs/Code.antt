@@ -1,21 +1,21 @@
 -- What is said of every written code: its bytes, its value, its length. Assumes nothing.
 use mathlib.Core.Path.{_≡_, refl, sym, ap, _∙_, subst, subst₂}
 use mathlib.Core.Logic.{_≢_, _⊎_, inl, inr}
-use Prim.Native.Nat.{ℕ, zero, suc, pred, _+_, _-_, _*_, _/_, _%_, _^_, _≤_, _<_, min}
-use native.Mathlib.Nat.{lt-of-mul-lt-mul-right, eq-of-mul-eq-mul-right, mul-assoc}
+use Prim.Native.Nat.{ℕ, _+_, _-_, _*_, _/_, _^_, _≤_, _<_}
+use native.Mathlib.Nat.{lt-of-mul-lt-mul-right}
 use native.Mathlib.Omega.{arith}
-use mathlib.Core.List.{List, [], _∷_, _++_, append-assoc}
-use lib.ListN.{drop, take, length}
-use lib.Pow.{pow-add, pow-pos}
+use mathlib.Core.List.{List, [], _∷_}
+use lib.ListN.{drop, length}
+use lib.Pow.{pow-add}
 use Rattle.ground.specs.Tests.{same?}
 use Rattle.octets.specs.Unit.{unit}
-use Rattle.interval.specs.declared.Interval.{Interval}
-use Rattle.interval.specs.Interval.{Decision, whole, upperPart, lowerPart, partOf, doubled, grown}
+use Rattle.interval.specs.Interval.{Decision, whole}
 use Rattle.octets.specs.Octets.{Registers, start, bits, run, finish, bytes, code}
 use Rattle.octets.specs.Fit.{Ready, AllSized, ready-run, ready-start, bits-ff, bits-else}
-use Rattle.exact.specs.Value.{value, places, Same, same-run, same-start, exact}
+use Rattle.exact.specs.Value.{value, places, exact, head-le}
+use Rattle.exact.specs.Agree.{same-run, same-start}
 use Rattle.exact.specs.End.{value-run}
-use Rattle.exact.specs.Ahead.{Ahead, Going, going-run, going-end, Lawful, need, head-le}
+use Rattle.exact.specs.Ahead.{Ahead, Going, going-run, going-end, Lawful, need}
 
 -- the code of a run of decisions, and its shifts
 unfoldable pub written : List Decision → List ℕ
@@ -24,7 +24,7 @@ written ds = code (run ds start)
 unfoldable pub counted : List Decision → ℕ
 counted ds = run ds start .interval .count
 
--- R2, R1 and R3 of any state w and any decisions that follow: w's settled bytes begin the code, and Ahead says how it goes on
+-- of any state w and any decisions that follow: w's settled bytes begin the code, and Ahead says how it goes on
 pub extension : (es : List Decision) (w : Registers) → Ready w → AllSized es → Going w (bytes (finish (run es w))) (run es w .interval .count)
 extension es w r z = going-run es w _ _ z r (going-end (run es w) (ready-run es w z r .rest))
 
@@ -68,7 +68,7 @@ coded ds z =
       wanted = subst₂ (λ (b : ℕ) (l : List ℕ). need b l ≤ 12 + counted ds) b0 e (omega (arith, i .wanted, g .togo));
     }
 
--- ---- the value of the code is the final low end, exactly
+-- ---- the value of the code is the final lower end, exactly
 pub counted-exact : (ds : List Decision) → AllSized ds → counted ds ≡ exact ds whole .count
 unfolding counted
 counted-exact ds z = same-run ds start whole z ready-start same-start .count

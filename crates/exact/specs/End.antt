@@ -1,22 +1,19 @@
--- The end of a code: at most four bytes, after which nothing is left in c; so the value of the code is the final low end. Assumes nothing.
+-- The end of a code: at most four bytes, after which nothing of the lower end is left; so the value of the code is the final lower end. Assumes nothing.
 use mathlib.Core.Path.{_≡_, refl, sym, ap, _∙_, subst, subst₂}
-use mathlib.Core.Logic.{_≢_, _⊎_, inl, inr}
-use Prim.Native.Nat.{ℕ, zero, suc, pred, _+_, _-_, _*_, _/_, _%_, _^_, _≤_, _<_, _∣_, min}
-use native.Mathlib.Nat.{pow-succ', pow-suc, mul-assoc, mul-one, mul-comm, add-zero, add-suc, dvd-trans, dvd-add, dvd-add-iff-right, dvd-mul-left-of-dvd, dvd-mul-right, dvd-refl, mul-dvd-mul-left, mod-eq-zero-of-dvd, mod-eq-of-lt, pos-of-ne-zero}
+use Prim.Native.Nat.{ℕ, zero, suc, _+_, _-_, _*_, _^_, _≤_, _<_, _∣_, min}
+use native.Mathlib.Nat.{pow-succ', mul-assoc, mul-one, add-zero, dvd-trans, dvd-add, dvd-add-iff-right, dvd-mul-left-of-dvd, dvd-mul-right, dvd-refl, mul-dvd-mul-left, mod-eq-zero-of-dvd, mod-eq-of-lt, add-sub-of-le, one-dvd, eq-of-mul-eq-mul-right, mul-right-comm, add-comm}
 use native.Mathlib.Omega.{arith}
-use mathlib.Core.Bool.{Bool, true, false, cond, not}
-use mathlib.Core.List.{List, [], _∷_, _++_, append-assoc}
-use lib.ListN.{drop}
-use lib.Dec.{T, ltb, leb, eqb, ltb→lt, nltb→le, eqb→eq}
-use lib.Pow.{pow-add}
-use Rattle.ground.specs.Tests.{by-cond, either, same?, neqb→ne}
-use Rattle.octets.specs.Unit.{unit, unit-pred, unit-zero, unit-eight, unit-seven, unit-pos}
-use Rattle.interval.specs.declared.Interval.{Interval}
-use Rattle.interval.specs.Interval.{Decision, whole, upperPart, lowerPart, partOf, doubled, grown, coded}
-use Rattle.octets.specs.Octets.{Registers, start, bits, carried, byte, run, pad, pads, lastByte, cover, finish, bytes}
-use Rattle.octets.specs.Fit.{Fit, Rest, Ready, Made, Byte, eight, seven, made, fit-byte, byte-some, Sized, AllSized, ready-run, ready-start}
-use Rattle.octets.specs.Ending.{Filled, filled, fit-pad, rest-last, seven-bits}
-use Rattle.exact.specs.Value.{value, places, Agree, agree-pad, agree-byte, byte-until, Same, same-run, same-start, exact}
+use mathlib.Core.List.{List}
+use lib.Dec.{eqb, eqb→eq}
+use lib.Pow.{pow-add, pow-pos}
+use Rattle.ground.specs.Tests.{by-cond}
+use Rattle.octets.specs.Unit.{unit}
+use Rattle.interval.specs.Interval.{Decision, whole}
+use Rattle.octets.specs.Octets.{Registers, start, byte, run, pad, pads, lastByte, cover, finish, bytes}
+use Rattle.octets.specs.Fit.{Fit, Rest, Byte, made, byte-few, AllSized, ready-run, ready-start}
+use Rattle.octets.specs.Ending.{Filled, filled, fit-pad, rest-last}
+use Rattle.exact.specs.Value.{value, places, exact}
+use Rattle.exact.specs.Agree.{Agree, agree-pad, agree-byte, same-run, same-start}
 
 agree-pads : (n : ℕ) (w : Registers) (low m : ℕ) → Fit w → w .until ≡ n → Agree w low m → Agree (pads n w) (low * 2 ^ n) (m + n)
 unfolding pads
@@ -52,7 +49,7 @@ agree-cover (suc n) r w low m f g =
 
 -- ---- nothing is left
 
--- r bits of the low end are in no byte, and the bits of c after them are zero
+-- r bits of the lower end are in no byte, and the bits of c after them are zero
 pub record Tail (r : ℕ) (w : Registers) : Type 0 where
   pub zeros : ℕ
   pub fits : zeros + r ≡ 24 - w .until
@@ -60,7 +57,7 @@ pub record Tail (r : ℕ) (w : Registers) : Type 0 where
   pub clear : r ≡ 0 → w .interval .low ≡ 0
 
 pow-dvd : (i j : ℕ) → i ≤ j → 2 ^ i ∣ 2 ^ j
-pow-dvd i j h = subst (λ (x : ℕ). 2 ^ i ∣ x) (sym (pow-add 2 i (j - i)) ∙ ap (λ (x : ℕ). 2 ^ x) (native.Mathlib.Nat.add-sub-of-le h)) (dvd-mul-right (2 ^ i) (2 ^ (j - i)))
+pow-dvd i j h = subst (λ (x : ℕ). 2 ^ i ∣ x) (sym (pow-add 2 i (j - i)) ∙ ap (λ (x : ℕ). 2 ^ x) (add-sub-of-le h)) (dvd-mul-right (2 ^ i) (2 ^ (j - i)))
 
 -- what divides the rest divides c'
 keeps : (p h c b u h' c' : ℕ) → h * 16777216 + c ≡ b * 16777216 + (h' * u + c') → p ∣ 16777216 → p ∣ c → p ∣ u → p ∣ c'
@@ -84,21 +81,14 @@ tail-pads (suc n) r w e h k =
     })
 
 tail-made : (r : ℕ) (w : Registers) → w .until ≡ 0 → Byte w → Tail r w → Tail (r - byte w .until) (byte w)
-tail-made r w z (eight e m) k =
-    let q : byte w .until ≡ 8 = byte-until w ∙ e in
+unfolding unit
+tail-made r w z m k =
+    let t : ℕ = 24 - byte w .until in
     record {
-      zeros = min (k .zeros) 16;
-      fits = omega (arith, k .fits, z, q);
-      even = keeps (2 ^ min (k .zeros) 16) _ _ _ _ _ _ (m .whole) (pow-dvd _ 24 (omega arith)) (dvd-trans _ (pow-dvd _ (k .zeros) (omega arith)) (k .even)) (pow-dvd _ 16 (omega arith));
-      clear = λ y. none-left 65536 _ (keeps 65536 _ _ _ _ _ _ (m .whole) (pow-dvd 16 24 (omega arith)) (dvd-trans _ (pow-dvd 16 (k .zeros) (omega (arith, k .fits))) (k .even)) (dvd-refl _)) (m .part);
-    }
-tail-made r w z (seven e m) k =
-    let q : byte w .until ≡ 7 = byte-until w ∙ e in
-    record {
-      zeros = min (k .zeros) 17;
-      fits = omega (arith, k .fits, z, q);
-      even = keeps (2 ^ min (k .zeros) 17) _ _ _ _ _ _ (m .whole) (pow-dvd _ 24 (omega arith)) (dvd-trans _ (pow-dvd _ (k .zeros) (omega arith)) (k .even)) (pow-dvd _ 17 (omega arith));
-      clear = λ y. none-left 131072 _ (keeps 131072 _ _ _ _ _ _ (m .whole) (pow-dvd 17 24 (omega arith)) (dvd-trans _ (pow-dvd 17 (k .zeros) (omega (arith, k .fits))) (k .even)) (dvd-refl _)) (m .part);
+      zeros = min (k .zeros) t;
+      fits = omega (arith, k .fits, z, byte-few w);
+      even = keeps (2 ^ min (k .zeros) t) _ _ _ _ _ _ (m .whole) (pow-dvd _ 24 (omega arith)) (dvd-trans _ (pow-dvd _ (k .zeros) (omega arith)) (k .even)) (pow-dvd _ t (omega arith));
+      clear = λ y. none-left (2 ^ t) _ (keeps (2 ^ t) _ _ _ _ _ _ (m .whole) (pow-dvd t 24 (omega arith)) (dvd-trans _ (pow-dvd t (k .zeros) (omega (arith, k .fits, y, z, byte-few w))) (k .even)) (dvd-refl _)) (m .part);
     }
 
 pub tail-last : (r : ℕ) (w : Registers) → Rest w → Tail r w → Tail (r - lastByte w .until) (lastByte w)
@@ -112,21 +102,21 @@ cover-clear zero r w f k h = k .clear (omega arith)
 cover-clear (suc n) r w f k h =
     by-cond (λ (v : Registers). v .interval .low ≡ 0) (eqb r 0) w (cover n (r - lastByte w .until) (lastByte w))
     (λ t. k .clear (eqb→eq r 0 t))
-    (λ t. cover-clear n (r - lastByte w .until) (lastByte w) (rest-last w f) (tail-last r w f k) (omega (arith, seven-bits (pads (w .until) w))))
+    (λ t. cover-clear n (r - lastByte w .until) (lastByte w) (rest-last w f) (tail-last r w f k) (omega (arith, byte-few (pads (w .until) w))))
 
 pub tail-start : (w : Registers) → Rest w → Tail (24 - w .until) w
 tail-start w r =
-    record { zeros = 0; fits = omega arith; even = native.Mathlib.Nat.one-dvd (w .interval .low); clear = λ z. absurd (go z) }
+    record { zeros = 0; fits = omega arith; even = one-dvd (w .interval .low); clear = λ z. absurd (go z) }
   where
     go : 24 - w .until ≡ 0 → ⊥
     go z = omega (arith, r .fit .few)
 
--- ---- I4: the value of all that is written is the final low end, a fraction of 12 + S bits (8 more with the zero before the code)
+-- ---- the value of all that is written is the final lower end, a fraction of 12 + S bits (8 more with the zero before the code)
 scaled : (v low u z p n : ℕ) → v * 2 ^ u ≡ low * 2 ^ z → p + u ≡ n + z → v * 2 ^ n ≡ low * 2 ^ p
 scaled v low u z p n e h =
-    native.Mathlib.Nat.eq-of-mul-eq-mul-right (2 ^ u) (lib.Pow.pow-pos u) (v * 2 ^ n) (low * 2 ^ p)
-    (native.Mathlib.Nat.mul-right-comm v (2 ^ n) (2 ^ u) ∙ ap (λ (x : ℕ). x * 2 ^ n) e ∙ mul-assoc low (2 ^ z) (2 ^ n)
-    ∙ ap (λ (x : ℕ). low * x) (sym (pow-add 2 z n) ∙ ap (λ (x : ℕ). 2 ^ x) (native.Mathlib.Nat.add-comm z n ∙ sym h) ∙ pow-add 2 p u)
+    eq-of-mul-eq-mul-right (2 ^ u) (pow-pos u) (v * 2 ^ n) (low * 2 ^ p)
+    (mul-right-comm v (2 ^ n) (2 ^ u) ∙ ap (λ (x : ℕ). x * 2 ^ n) e ∙ mul-assoc low (2 ^ z) (2 ^ n)
+    ∙ ap (λ (x : ℕ). low * x) (sym (pow-add 2 z n) ∙ ap (λ (x : ℕ). 2 ^ x) (add-comm z n ∙ sym h) ∙ pow-add 2 p u)
     ∙ sym (mul-assoc low (2 ^ p) (2 ^ u)))
 
 pub value-finish : (w : Registers) (low n : ℕ) → Rest w → Agree w low n → value (bytes (finish w)) * 2 ^ n ≡ low * 2 ^ places 0 (bytes (finish w))

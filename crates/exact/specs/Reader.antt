@@ -1,25 +1,23 @@
 -- The reader: what it sees of a code, beside the writer; on a written code it takes each decision as it was written. Assumes nothing.
-use mathlib.Core.Path.{_≡_, refl, sym, ap, ap₂, _∙_, subst, subst₂}
-use mathlib.Core.Logic.{_≢_, _⊎_, inl, inr}
-use Prim.Native.Nat.{ℕ, zero, suc, pred, _+_, _-_, _*_, _/_, _%_, _^_, _≤_, _<_, min}
-use native.Mathlib.Nat.{mul-le-mul-right, lt-of-mul-lt-mul-right, le-of-mul-le-mul-right, add-zero, pow-succ'}
+use mathlib.Core.Path.{_≡_, refl, sym, ap, _∙_, subst, subst₂}
+use Prim.Native.Nat.{ℕ, zero, suc, _+_, _-_, _*_, _%_, _^_, _≤_, _<_}
+use native.Mathlib.Nat.{lt-of-mul-lt-mul-right, add-zero, pow-succ', mul-le-mul, mod-eq-of-lt, pos-of-ne-zero}
 use native.Mathlib.Omega.{arith}
 use mathlib.Core.Bool.{Bool, true, false, cond, not}
 use mathlib.Core.List.{List, [], _∷_, _++_, append-assoc}
 use lib.ListN.{drop, take, length, getD}
-use lib.Dec.{T, ltb, leb, eqb, ltb→lt, nltb→le, eqb→eq, lt→ltb}
-use lib.Pow.{pow-add, pow-pos}
-use Rattle.ground.specs.Tests.{by-cond, by-cond₂, either, same?, neqb→ne, if-eq, if-ne, if-lt, if-ge}
-use Rattle.octets.specs.Unit.{unit, unit-pred, unit-zero, unit-eight, unit-seven, unit-pos}
-use Rattle.interval.specs.Interval.{Decision}
-use Rattle.octets.specs.Octets.{Registers, start, bits, carried, byte, due, double, shifts, part, pel, run, finish, bytes}
-use Rattle.octets.specs.Fit.{upper, lower, Fit, Rest, Ready, Made, Byte, eight, seven, made, Sized, AllSized, ready-run, ready-start, bits-ff, bits-else, fit-double, rest-shift, rest-part, ready-pel, due-width}
-use Rattle.exact.specs.Value.{value, places, byte-until, places-snoc, value-snoc}
-use Rattle.octets.specs.Ending.{seven-bits}
-use Rattle.exact.specs.Ahead.{Ahead, Going, going-run, going-end, going-shifts, byte-settled}
-use Rattle.exact.specs.Code.{going-start, coded, Coded, code-bytes}
+use lib.Dec.{T, ltb, eqb, ltb→lt, eqb→eq, lt→ltb}
+use lib.Pow.{pow-add, pow-pos, pow-mono}
+use lib.Arith.{le→nltb}
+use Rattle.ground.specs.Bools.{is-true}
+use Rattle.ground.specs.Tests.{by-cond, by-cond₂, neqb→ne}
+use Rattle.octets.specs.Unit.{unit, unit-pred, unit-zero, unit-pos}
+use Rattle.octets.specs.Octets.{Registers, start, bits, carried, byte, due, double, shifts}
+use Rattle.octets.specs.Fit.{upper, lower, Fit, Rest, Byte, made, bits-few, byte-until, fit-double, rest-shift}
+use Rattle.exact.specs.Value.{value, places, places-one, places-snoc, value-snoc, places-split, value-split}
+use Rattle.exact.specs.Ahead.{Ahead, ahead-double, Going, going-due, going-shifts, byte-width, byte-settled}
 
--- width: the width. x: the bits of the code that are read, less the low end; look: how many of them lie past the low end's last bit.
+-- width: the width. x: the bits of the code that are read, less the lower end; look: how many of them lie past the lower end's last bit.
 -- last: the byte last read. unread: the bytes to come.
 pub record Sight : Type 0 where
   pub width : ℕ
@@ -28,7 +26,7 @@ pub record Sight : Type 0 where
   pub last : ℕ
   pub unread : List ℕ
 
--- two bytes: 16 bits, or 15 after FF, of which 12 are the low end's
+-- two bytes: 16 bits, or 15 after FF, of which 12 are the lower end's
 abbrev pub opened : List ℕ → Sight
 opened code =
     record { width = 0x1000; x = getD code 0 0 * 2 ^ bits (getD code 0 0) + getD code 1 0; look = bits (getD code 0 0) - 4; last = getD code 1 0; unread = drop 2 code }
@@ -60,7 +58,7 @@ under q r = record { width = q; x = r .x; look = r .look; last = r .last; unread
 abbrev pub taken : ℕ → Bool → Sight → Sight
 taken q e r = cond e (above q r) (under q r)
 
--- ---- what the reader has read: of the bytes from w's on, b and then ys and the last; x is their value less the low end
+-- ---- what the reader has read: of the bytes from w's on, b and then ys and the last; x is their value less the lower end
 pub record Sees (r : Sight) (w : Registers) (all : List ℕ) : Type 0 where
   pub b : ℕ
   pub ys : List ℕ
@@ -78,16 +76,6 @@ take-last : (ys : List ℕ) (l : ℕ) (us : List ℕ) → take (suc (length ys))
 take-last [] l us = refl
 take-last (y ∷ ys) l us = ap (λ (k : List ℕ). y ∷ k) (take-last ys l us)
 
-places-split : (z : ℕ) (xs : List ℕ) (l : ℕ) (us : List ℕ) → places z (xs ++ (l ∷ us)) ≡ places z (xs ++ (l ∷ [])) + places l us
-unfolding places
-places-split z [] l us = omega arith
-places-split z (x ∷ xs) l us = omega (arith, places-split x xs l us)
-
-value-split : (xs : List ℕ) (l : ℕ) (us : List ℕ) → value (xs ++ (l ∷ us)) ≡ value (xs ++ (l ∷ [])) * 2 ^ places l us + value us
-unfolding value places
-value-split [] l us = omega arith
-value-split (x ∷ xs) l us = rw (places-split x xs l us, pow-add 2 (places x (xs ++ (l ∷ []))) (places l us)) (omega (arith, value-split xs l us))
-
 -- the state's decomposition and the reader's are one
 module _ (r : Sight) (w v : Registers) (all : List ℕ) (n : ℕ) (same : v .settled ≡ w .settled) (g : Sees r w all) (i : Ahead v all n) where
   one : i .b ∷ i .bs ≡ g .b ∷ (g .ys ++ (r .last ∷ r .unread))
@@ -104,7 +92,7 @@ place-unit : (p t l : ℕ) → p ≡ 24 - t + l → 2 ^ p ≡ unit t * 2 ^ l
 unfolding unit
 place-unit p t l e = ap (λ (k : ℕ). 2 ^ k) e ∙ pow-add 2 (24 - t) l
 
--- ---- R4: the reader's test
+-- ---- the reader's test tells the pel
 expected-num : (h u c q l x X : ℕ) → 1 ≤ u → (h * u + (c + q)) * (u * l) < (X + 1) * u → x + (h * u + c) * l ≡ X → q * l ≤ x
 expected-num h u c q l x X p k e =
     let m : (h * u + (c + q)) * l * u < (X + 1) * u = omega arith in
@@ -141,7 +129,7 @@ refuses q r w all n g i =
     (subst (λ (y : ℕ). value (g .b ∷ (g .ys ++ (r .last ∷ r .unread))) * unit (w .until) < (w .held * unit (w .until) + w .interval .low + q) * y) e k)
     (g .number)
 
--- R5: x is below the width (`lower (w .interval .width) w` is w)
+-- x is below the width (`lower (w .interval .width) w` is w)
 pub x-bound : (r : Sight) (w : Registers) (all : List ℕ) (n : ℕ) → Sees r w all → Ahead w all n → r .x < w .interval .width * 2 ^ r .look
 x-bound r w all n g i = refuses (w .interval .width) r w all n g i
 
@@ -209,31 +197,25 @@ module _ (w : Registers) (r : Sight) (all : List ℕ) (n : ℕ) (z : w .until �
 
   place-head : (b y : ℕ) (ys : List ℕ) (l : ℕ) → bits b ≡ byte w .until → places b (y ∷ ys) ≡ 24 - w .until + l → places y ys ≡ 24 - byte w .until + l
   unfolding places
-  place-head b y ys l e p = omega (arith, Rattle.exact.specs.Ahead.bits-few b)
+  place-head b y ys l e p = omega (arith, bits-few b)
 
-  number-of : Byte w → (y : ℕ) (ys : List ℕ) → places (carried (w .held) (w .interval .low)) (y ∷ ys) ≡ 24 - w .until + r .look
+  number-of : (y : ℕ) (ys : List ℕ) → places (carried (w .held) (w .interval .low)) (y ∷ ys) ≡ 24 - w .until + r .look
       → r .x + (w .held * unit (w .until) + w .interval .low) * 2 ^ r .look ≡ value (carried (w .held) (w .interval .low) ∷ y ∷ ys)
       → r .x + (byte w .held * unit (byte w .until) + byte w .interval .low) * 2 ^ r .look ≡ value (y ∷ ys)
   unfolding value
-  number-of (eight e m) y ys p f =
-      rw (byte-until w, e, unit-eight)
-      (byte-num (carried (w .held) (w .interval .low)) (w .held) (w .interval .low) (byte w .held) (byte w .interval .low) (2 ^ r .look) (r .x) (value (y ∷ ys)) 65536 _ (m .whole)
+  number-of y ys p f =
+      byte-num (carried (w .held) (w .interval .low)) (w .held) (w .interval .low) (byte w .held) (byte w .interval .low) (2 ^ r .look) (r .x) (value (y ∷ ys)) (unit (byte w .until)) _ (by .whole)
       (place-unit _ (w .until) (r .look) p ∙ ap (λ (u : ℕ). u * 2 ^ r .look) (ap unit z ∙ unit-zero))
-      (subst (λ (u : ℕ). r .x + (w .held * u + w .interval .low) * 2 ^ r .look ≡ value (carried (w .held) (w .interval .low) ∷ y ∷ ys)) (ap unit z ∙ unit-zero) f))
-  number-of (seven e m) y ys p f =
-      rw (byte-until w, e, unit-seven)
-      (byte-num (carried (w .held) (w .interval .low)) (w .held) (w .interval .low) (byte w .held) (byte w .interval .low) (2 ^ r .look) (r .x) (value (y ∷ ys)) 131072 _ (m .whole)
-      (place-unit _ (w .until) (r .look) p ∙ ap (λ (u : ℕ). u * 2 ^ r .look) (ap unit z ∙ unit-zero))
-      (subst (λ (u : ℕ). r .x + (w .held * u + w .interval .low) * 2 ^ r .look ≡ value (carried (w .held) (w .interval .low) ∷ y ∷ ys)) (ap unit z ∙ unit-zero) f))
+      (subst (λ (u : ℕ). r .x + (w .held * u + w .interval .low) * 2 ^ r .look ≡ value (carried (w .held) (w .interval .low) ∷ y ∷ ys)) (ap unit z ∙ unit-zero) f)
 
-  sees-byte-widtht : (b : ℕ) (ys : List ℕ) → all ≡ w .settled ++ (b ∷ (ys ++ (r .last ∷ r .unread))) → r .width ≡ w .interval .width
+  past : (b : ℕ) (ys : List ℕ) → all ≡ w .settled ++ (b ∷ (ys ++ (r .last ∷ r .unread))) → r .width ≡ w .interval .width
       → places b (ys ++ (r .last ∷ [])) ≡ 24 - w .until + r .look
       → r .x + (w .held * unit (w .until) + w .interval .low) * 2 ^ r .look ≡ value (b ∷ (ys ++ (r .last ∷ []))) → Sees r (byte w) all
-  sees-byte-widtht b [] j a p f = absurd (short b (r .last) p)
+  past b [] j a p f = absurd (short b (r .last) p)
     where
       short : (b l : ℕ) → places b (l ∷ []) ≡ 24 - w .until + r .look → ⊥
-      short b l p = omega (arith, Rattle.exact.specs.Ahead.bits-few b, Rattle.exact.specs.Ahead.places-one b l)
-  sees-byte-widtht b (y ∷ ys) j a p f =
+      short b l p = omega (arith, bits-few b, places-one b l)
+  past b (y ∷ ys) j a p f =
       let same : carried (w .held) (w .interval .low) ∷ i .b ∷ i .bs ≡ b ∷ y ∷ (ys ++ (r .last ∷ r .unread))
       = cancel (w .settled) _ _ (sym (append-assoc (w .settled) (carried (w .held) (w .interval .low) ∷ []) (i .b ∷ i .bs)) ∙ ap (λ (l : List ℕ). l ++ (i .b ∷ i .bs)) (sym (byte-settled w)) ∙ sym (i .joined) ∙ j) in
       let eb : b ≡ carried (w .held) (w .interval .low) = ap (λ (l : List ℕ). getD l 0 0) (sym same) in
@@ -242,14 +224,14 @@ module _ (w : Registers) (r : Sight) (all : List ℕ) (n : ℕ) (z : w .until �
         ys = ys;
         joined = j ∙ ap (λ (k : ℕ). w .settled ++ (k ∷ y ∷ (ys ++ (r .last ∷ r .unread)))) eb
             ∙ sym (append-assoc (w .settled) (carried (w .held) (w .interval .low) ∷ []) (y ∷ (ys ++ (r .last ∷ r .unread)))) ∙ ap (λ (l : List ℕ). l ++ (y ∷ (ys ++ (r .last ∷ r .unread)))) (sym (byte-settled w));
-        wide = a ∙ sym (Rattle.exact.specs.Ahead.byte-width w);
+        wide = a ∙ sym (byte-width w);
         place = place-head b y (ys ++ (r .last ∷ [])) (r .look) (ap bits eb ∙ sym (byte-until w)) p;
-        number = number-of by y (ys ++ (r .last ∷ [])) (subst (λ (k : ℕ). places k (y ∷ (ys ++ (r .last ∷ []))) ≡ 24 - w .until + r .look) eb p)
+        number = number-of y (ys ++ (r .last ∷ [])) (subst (λ (k : ℕ). places k (y ∷ (ys ++ (r .last ∷ []))) ≡ 24 - w .until + r .look) eb p)
             (subst (λ (k : ℕ). r .x + (w .held * unit (w .until) + w .interval .low) * 2 ^ r .look ≡ value (k ∷ y ∷ (ys ++ (r .last ∷ [])))) eb f);
       }
 
 sees-byte : (w : Registers) (r : Sight) (all : List ℕ) (n : ℕ) → Fit w → w .until ≡ 0 → Ahead (byte w) all n → Sees r w all → Sees r (byte w) all
-sees-byte w r all n f z i g = sees-byte-widtht w r all n z (made w f z) i (g .b) (g .ys) (g .joined) (g .wide) (g .place) (g .number)
+sees-byte w r all n f z i g = past w r all n z (made w f z) i (g .b) (g .ys) (g .joined) (g .wide) (g .place) (g .number)
 
 sees-due : (w : Registers) (r : Sight) (all : List ℕ) (S : ℕ) → Fit w → Going (due w) all S → Sees r w all → Sees r (due w) all
 unfolding due
@@ -271,15 +253,15 @@ not-done r w all S f i g z e =
 
 fits : (a l x : ℕ) → a ≤ 8191 → l ≤ 8 → x < a * 2 ^ l → x % 2 ^ 32 ≡ x
 fits a l x h k p =
-    let m : a * 2 ^ l ≤ 8191 * 2 ^ 8 = native.Mathlib.Nat.mul-le-mul h (lib.Pow.pow-mono k) in
-    native.Mathlib.Nat.mod-eq-of-lt (omega arith)
+    let m : a * 2 ^ l ≤ 8191 * 2 ^ 8 = mul-le-mul h (pow-mono k) in
+    mod-eq-of-lt (omega arith)
 
 sees-supplied : (r : Sight) (w : Registers) (all : List ℕ) (S : ℕ) → Rest w → Going (double w) all S → Sees r w all → Supplied (supplied r) w all
 unfolding supplied
 sees-supplied r w all S f i g =
     by-cond (λ (v : Sight). Supplied v w all) (eqb (r .look) 0) (more r) r
     (λ t. go (r .unread) refl (eqb→eq (r .look) 0 t))
-    (λ t. record { sees = g; look = native.Mathlib.Nat.pos-of-ne-zero (neqb→ne (r .look) 0 t) })
+    (λ t. record { sees = g; look = pos-of-ne-zero (neqb→ne (r .look) 0 t) })
   where
     sight : ℕ → ℕ → List ℕ → Sight
     sight x d us = record { width = r .width; x = x; look = r .look + bits (r .last); last = d; unread = us }
@@ -289,42 +271,19 @@ sees-supplied r w all S f i g =
     go (d ∷ us) e z =
         let x : ℕ = r .x * 2 ^ bits (r .last) + d in
         let s : Sees (sight x d us) w all = sees-more r w all d us e g in
-        let b : x < w .interval .width * 2 ^ (r .look + bits (r .last)) = x-bound (sight x d us) w all (i .n) s (Rattle.exact.specs.Ahead.ahead-double w all (i .n) f (i .ahead)) in
-        let k : x % 2 ^ 32 ≡ x = fits (w .interval .width) (r .look + bits (r .last)) x (f .fit .narrow) (omega (arith, Rattle.exact.specs.Ahead.bits-few (r .last))) b in
+        let b : x < w .interval .width * 2 ^ (r .look + bits (r .last)) = x-bound (sight x d us) w all (i .n) s (ahead-double w all (i .n) f (i .ahead)) in
+        let k : x % 2 ^ 32 ≡ x = fits (w .interval .width) (r .look + bits (r .last)) x (f .fit .narrow) (omega (arith, bits-few (r .last))) b in
         record {
           sees = subst (λ (l : List ℕ). Sees (sight ((r .x * 2 ^ bits (r .last) + getD l 0 0) % 2 ^ 32) (getD l 0 0) (drop 1 l)) w all)
               (sym e) (subst (λ (y : ℕ). Sees (sight y d us) w all) (sym k) s);
-          look = omega (arith, Rattle.exact.specs.Ahead.bits-few (r .last));
+          look = omega (arith, bits-few (r .last));
         }
-
--- of any bytes at all: the look-ahead stays below 8, and x in 32 bits
-pub record Small (r : Sight) : Type 0 where
-  pub look : r .look ≤ 7
-  pub x : r .x < 2 ^ 32
-
-pub small-nearer : (r : Sight) → Small r → Small (nearer (supplied r))
-unfolding supplied
-small-nearer r h =
-    by-cond (λ (v : Sight). Small (nearer v)) (eqb (r .look) 0) (more r) r
-    (λ t. record {
-      look = omega (arith, eqb→eq (r .look) 0 t, Rattle.exact.specs.Ahead.bits-few (r .last));
-      x = native.Mathlib.Nat.mod-lt (r .x * 2 ^ bits (r .last) + getD (r .unread) 0 0) (pow-pos 32);
-    })
-    (λ t. record { look = omega (arith, h .look); x = h .x })
-
-pub small-seek : (n : ℕ) (r : Sight) → Small r → Small (seek n r)
-unfolding seek
-small-seek zero r h = h
-small-seek (suc n) r h = by-cond Small (ltb (r .width) 4096) (seek n (nearer (supplied r))) r (λ t. small-seek n (nearer (supplied r)) (small-nearer r h)) (λ t. h)
-
-pub small-taken : (q : ℕ) (e : Bool) (r : Sight) → Small r → Small (taken q e r)
-small-taken q e r h = by-cond Small e (above q r) (under q r) (λ t. record { look = h .look; x = omega (arith, h .x) }) (λ t. record { look = h .look; x = h .x })
 
 sees-shift : (r : Sight) (w : Registers) (all : List ℕ) (S : ℕ) → Rest w → T (ltb (w .interval .width) 4096) → Going (due (double w)) all S → Sees r w all
     → Sees (nearer (supplied r)) (due (double w)) all
 sees-shift r w all S f t i g =
     let k : Fit (double w) = fit-double w f (ltb→lt (w .interval .width) 4096 t) in
-    let s : Supplied (supplied r) w all = sees-supplied r w all S f (Rattle.exact.specs.Ahead.going-due (double w) all S k i) g in
+    let s : Supplied (supplied r) w all = sees-supplied r w all S f (going-due (double w) all S k i) g in
     sees-due (double w) (nearer (supplied r)) all S k i (sees-nearer (supplied r) w all f (s .look) (s .sees))
 
 pub sees-shifts : (n : ℕ) (r : Sight) (w : Registers) (all : List ℕ) (S : ℕ) → Rest w → Sees r w all → Going (shifts n w) all S → Sees (seek n r) (shifts n w) all
@@ -339,21 +298,13 @@ sees-shifts (suc n) r w all S f g =
     (λ t i. g))
 
 -- ---- the whole
-is-true : (b : Bool) → T b → b ≡ true
-is-true true t = refl
-is-true false t = absurd t
-
-is-false : (b : Bool) → T b → not b ≡ false
-is-false true t = refl
-is-false false t = absurd t
-
 pub decide-true : (q : ℕ) (r : Sight) → q * 2 ^ r .look ≤ r .x → decide q r ≡ true
 unfolding decide
-decide-true q r h = is-true _ (lib.Arith.le→nltb (r .x) (q * 2 ^ r .look) h)
+decide-true q r h = is-true _ (le→nltb (r .x) (q * 2 ^ r .look) h)
 
 pub decide-false : (q : ℕ) (r : Sight) → r .x < q * 2 ^ r .look → decide q r ≡ false
 unfolding decide
-decide-false q r h = is-false (ltb (r .x) (q * 2 ^ r .look)) (lt→ltb (r .x) (q * 2 ^ r .look) h)
+decide-false q r h = ap not (is-true (ltb (r .x) (q * 2 ^ r .look)) (lt→ltb (r .x) (q * 2 ^ r .look) h))
 
 zero-bits : bits 0 ≡ 8
 unfolding bits
@@ -368,13 +319,13 @@ sees-start [] all e h = absurd (go h)
 sees-start (d ∷ []) all e h = absurd (go h)
   where
     go : 12 ≤ bits 0 + 0 → ⊥
-    go h = omega (arith, Rattle.exact.specs.Ahead.bits-few 0)
+    go h = omega (arith, bits-few 0)
 sees-start (d ∷ k ∷ us) all e h =
     record {
       b = 0;
       ys = d ∷ [];
       joined = e;
       wide = refl;
-      place = omega (arith, zero-bits, Rattle.exact.specs.Ahead.bits-few d);
+      place = omega (arith, zero-bits, bits-few d);
       number = rw (add-zero (bits d)) (omega arith);
     }

@@ -1,19 +1,12 @@
--- The value of a code, the interval in exact arithmetic, and I4: the value of what is written is the final low end. Assumes nothing.
-use mathlib.Core.Path.{_≡_, refl, sym, ap, _∙_, subst, subst₂}
-use mathlib.Core.Logic.{_≢_, _⊎_, inl, inr}
-use Prim.Native.Nat.{ℕ, zero, suc, pred, _+_, _-_, _*_, _/_, _%_, _^_, _≤_, _<_, _∣_}
-use native.Mathlib.Nat.{pow-succ', mul-assoc, mul-one}
+-- The value of a code and the interval in exact arithmetic. Assumes nothing.
+use mathlib.Core.Path.{_≡_, refl, _∙_}
+use Prim.Native.Nat.{ℕ, _+_, _*_, _^_, _≤_}
 use native.Mathlib.Omega.{arith}
-use mathlib.Core.Bool.{Bool, true, false, cond, not}
-use mathlib.Core.List.{List, [], _∷_, _++_, append-assoc}
-use lib.Dec.{T, ltb, leb, eqb, ltb→lt, nltb→le, eqb→eq}
+use mathlib.Core.List.{List, [], _∷_, _++_}
 use lib.Pow.{pow-add}
-use Rattle.ground.specs.Tests.{by-cond, by-cond₂, either, same?, if-eq, if-ne, if-lt, if-ge}
-use Rattle.octets.specs.Unit.{unit, unit-pred, unit-zero, unit-eight, unit-seven, unit-pos}
 use Rattle.interval.specs.declared.Interval.{Interval}
-use Rattle.interval.specs.Interval.{Decision, whole, upperPart, lowerPart, partOf, doubled, grown, coded}
-use Rattle.octets.specs.Octets.{Registers, at, start, bits, carried, left, byte, due, double, shifts, part, pel, run, pad, pads, lastByte, cover, finish, bytes}
-use Rattle.octets.specs.Fit.{upper, lower, by-part, Fit, Rest, Ready, Made, Byte, eight, seven, made, due-width, due-count, rest-shift, rest-part, ready-pel, Sized, AllSized}
+use Rattle.interval.specs.Interval.{Decision, coded}
+use Rattle.octets.specs.Octets.{bits}
 
 -- the bits that bytes bring after the byte b
 unfoldable pub places : ℕ → List ℕ → ℕ
@@ -30,11 +23,40 @@ unfoldable pub exact : List Decision → Interval → Interval
 exact [] e = e
 exact (d ∷ ds) e = exact ds (coded d e)
 
--- ---- one byte more
-pub places-snoc : (z : ℕ) (xs : List ℕ) (b d : ℕ) → places z (xs ++ (b ∷ d ∷ [])) ≡ places z (xs ++ (b ∷ [])) + bits b
+-- ---- bytes in front
+pub places-one : (b d : ℕ) → places b (d ∷ []) ≡ bits b
 unfolding places
-places-snoc z [] b d = omega arith
-places-snoc z (x ∷ xs) b d = omega (arith, places-snoc x xs b d)
+places-one b d = omega arith
+
+pub places-cons : (b d : ℕ) (ds : List ℕ) → 2 ^ places b (d ∷ ds) ≡ 2 ^ bits b * 2 ^ places d ds
+unfolding places
+places-cons b d ds = pow-add 2 (bits b) (places d ds)
+
+pub value-one : (d : ℕ) → value (d ∷ []) ≡ d
+unfolding value places
+value-one d = omega arith
+
+pub value-cons : (b d : ℕ) (ds : List ℕ) → value (b ∷ d ∷ ds) ≡ b * (2 ^ bits b * 2 ^ places d ds) + value (d ∷ ds)
+unfolding value
+value-cons b d ds = rw (places-cons b d ds)
+
+pub head-le : (d : ℕ) (ds : List ℕ) → d * 2 ^ places d ds ≤ value (d ∷ ds)
+unfolding value
+head-le d ds = omega arith
+
+-- ---- bytes behind
+pub places-split : (z : ℕ) (xs : List ℕ) (l : ℕ) (us : List ℕ) → places z (xs ++ (l ∷ us)) ≡ places z (xs ++ (l ∷ [])) + places l us
+unfolding places
+places-split z [] l us = omega arith
+places-split z (x ∷ xs) l us = omega (arith, places-split x xs l us)
+
+pub value-split : (xs : List ℕ) (l : ℕ) (us : List ℕ) → value (xs ++ (l ∷ us)) ≡ value (xs ++ (l ∷ [])) * 2 ^ places l us + value us
+unfolding value places
+value-split [] l us = omega arith
+value-split (x ∷ xs) l us = rw (places-split x xs l us, pow-add 2 (places x (xs ++ (l ∷ []))) (places l us)) (omega (arith, value-split xs l us))
+
+pub places-snoc : (z : ℕ) (xs : List ℕ) (b d : ℕ) → places z (xs ++ (b ∷ d ∷ [])) ≡ places z (xs ++ (b ∷ [])) + bits b
+places-snoc z xs b d = omega (arith, places-split z xs b (d ∷ []), places-one b d)
 
 pub places-last : (z : ℕ) (xs : List ℕ) (b d : ℕ) → places z (xs ++ (b ∷ [])) ≡ places z (xs ++ (d ∷ []))
 unfolding places
@@ -46,109 +68,6 @@ unfolding value places
 value-last [] b = omega arith
 value-last (x ∷ xs) b = rw (places-last x xs b 0) (omega (arith, value-last xs b))
 
+-- a byte more brings its bits
 pub value-snoc : (xs : List ℕ) (b d : ℕ) → value (xs ++ (b ∷ d ∷ [])) ≡ value (xs ++ (b ∷ [])) * 2 ^ bits b + d
-unfolding value places
-value-snoc [] b d = rw (native.Mathlib.Nat.add-zero (bits b)) (omega arith)
-value-snoc (x ∷ xs) b d =
-    rw (places-snoc x xs b d, pow-add 2 (places x (xs ++ (b ∷ []))) (bits b)) (omega (arith, value-snoc xs b d))
-
--- ---- I4 and I1, of every state: the bytes at their place, and c, are the low end; and the bits in bytes and in c are n (8 of them
--- are the zero's before the code)
-pub record Agree (w : Registers) (low n : ℕ) : Type 0 where
-  pub sum : value (bytes w) * unit (w .until) + w .interval .low ≡ low
-  pub reach : places 0 (bytes w) + (24 - w .until) ≡ n
-
-pub bytes-byte : (w : Registers) → bytes (byte w) ≡ w .settled ++ (carried (w .held) (w .interval .low) ∷ byte w .held ∷ [])
-unfolding bytes byte
-bytes-byte w = append-assoc (w .settled) (carried (w .held) (w .interval .low) ∷ []) (byte w .held ∷ [])
-
-pub byte-until : (w : Registers) → byte w .until ≡ bits (carried (w .held) (w .interval .low))
-unfolding byte
-byte-until w = refl
-
-agree-made : (w : Registers) (low n : ℕ) → w .until ≡ 0 → Byte w → Agree w low n → Agree (byte w) low n
-unfolding bytes
-agree-made w low n z (eight e m) g =
-    record {
-      sum =
-          rw (bytes-byte w, value-snoc (w .settled) (carried (w .held) (w .interval .low)) (byte w .held), byte-until w, e, unit-eight)
-          (omega (arith, m .whole, g .sum, ap (λ (k : ℕ). value (bytes w) * k) (ap unit z ∙ unit-zero), value-last (w .settled) (w .held), value-last (w .settled) (carried (w .held) (w .interval .low))));
-      reach =
-          rw (bytes-byte w, places-snoc 0 (w .settled) (carried (w .held) (w .interval .low)) (byte w .held), byte-until w, e)
-          (omega (arith, g .reach, z, places-last 0 (w .settled) (w .held) (carried (w .held) (w .interval .low))));
-    }
-agree-made w low n z (seven e m) g =
-    record {
-      sum =
-          rw (bytes-byte w, value-snoc (w .settled) (carried (w .held) (w .interval .low)) (byte w .held), byte-until w, e, unit-seven)
-          (omega (arith, m .whole, g .sum, ap (λ (k : ℕ). value (bytes w) * k) (ap unit z ∙ unit-zero), value-last (w .settled) (w .held), value-last (w .settled) (carried (w .held) (w .interval .low))));
-      reach =
-          rw (bytes-byte w, places-snoc 0 (w .settled) (carried (w .held) (w .interval .low)) (byte w .held), byte-until w, e)
-          (omega (arith, g .reach, z, places-last 0 (w .settled) (w .held) (carried (w .held) (w .interval .low))));
-    }
-
-pub agree-byte : (w : Registers) (low n : ℕ) → Fit w → w .until ≡ 0 → Agree w low n → Agree (byte w) low n
-agree-byte w low n f z g = agree-made w low n z (made w f z) g
-
-agree-due : (w : Registers) (low n : ℕ) → Fit w → Agree w low n → Agree (due w) low n
-unfolding due
-agree-due w low n f g =
-    by-cond (λ (v : Registers). Agree v low n) (eqb (w .until) 0) (byte w) w (λ t. agree-byte w low n f (eqb→eq (w .until) 0 t) g) (λ t. g)
-
-agree-double : (w : Registers) (low n : ℕ) → Rest w → Agree w low n → Agree (double w) (2 * low) (suc n)
-unfolding bytes
-agree-double w low n r g =
-    record {
-      sum = omega (arith, g .sum, ap (λ (k : ℕ). value (bytes w) * k) (unit-pred (w .until) (r .wait) (omega (arith, r .fit .few))));
-      reach = omega (arith, g .reach, r .wait, r .fit .few);
-    }
-
-pub agree-pad : (w : Registers) (low n : ℕ) → Rest w → Agree w low n → Agree (pad w) (2 * low) (suc n)
-unfolding bytes
-agree-pad w low n r g =
-    record {
-      sum = omega (arith, g .sum, ap (λ (k : ℕ). value (bytes w) * k) (unit-pred (w .until) (r .wait) (omega (arith, r .fit .few))));
-      reach = omega (arith, g .reach, r .wait, r .fit .few);
-    }
-
--- the registers and the interval, side by side
-pub record Same (w : Registers) (e : Interval) : Type 0 where
-  pub agree : Agree w (e .low) (20 + e .count)
-  pub wide : w .interval .width ≡ e .width
-  pub count : w .interval .count ≡ e .count
-
-same-shift : (w : Registers) (e : Interval) → Rest w → T (ltb (w .interval .width) 4096) → Same w e → Same (due (double w)) (doubled e)
-same-shift w e r t m =
-    record {
-      agree = agree-due (double w) (2 * e .low) (20 + suc (e .count)) (Rattle.octets.specs.Fit.fit-double w r (ltb→lt (w .interval .width) 4096 t))
-          (rw (native.Mathlib.Nat.add-suc 20 (e .count)) (agree-double w (e .low) (20 + e .count) r (m .agree)));
-      wide = due-width (double w) ∙ ap (λ (k : ℕ). 2 * k) (m .wide);
-      count = due-count (double w) ∙ ap suc (m .count);
-    }
-
-same-shifts : (n : ℕ) (w : Registers) (e : Interval) → Rest w → Same w e → Same (shifts n w) (grown n e)
-unfolding shifts grown
-same-shifts zero w e r m = m
-same-shifts (suc n) w e r m =
-    subst (λ (k : ℕ). Same (shifts (suc n) w) (cond (ltb k 4096) (grown n (doubled e)) e)) (m .wide)
-    (by-cond₂ Same (ltb (w .interval .width) 4096) (shifts n (due (double w))) w (grown n (doubled e)) e
-    (λ t. same-shifts n (due (double w)) (doubled e) (rest-shift w r t) (same-shift w e r t m))
-    (λ t. m))
-
-same-part : (d : Decision) (w : Registers) (e : Interval) → Same w e → Same (part d w) (partOf d e)
-unfolding bytes
-same-part d w e m =
-    by-cond₂ (λ (i j : Interval). Same (at i w) j) (d .expected) (upperPart (d .q) (w .interval)) (lowerPart (d .q) (w .interval)) (upperPart (d .q) e) (lowerPart (d .q) e)
-    (λ t. record { agree = record { sum = omega (arith, m .agree .sum); reach = m .agree .reach }; wide = ap (λ (k : ℕ). k - d .q) (m .wide); count = m .count })
-    (λ t. record { agree = record { sum = m .agree .sum; reach = m .agree .reach }; wide = refl; count = m .count })
-
-pub same-run : (ds : List Decision) (w : Registers) (e : Interval) → AllSized ds → Ready w → Same w e → Same (run ds w) (exact ds e)
-unfolding run exact
-same-run [] w e z r m = m
-same-run (d ∷ ds) w e z r m =
-    same-run ds (pel d w) (coded d e) (z .1) (ready-pel d w r (z .0))
-    (same-shifts 12 (part d w) (partOf d e) (rest-part d w r (z .0)) (same-part d w e m))
-
-pub same-start : Same start whole
-unfolding bytes value places unit bits
-same-start = record { agree = record { sum = refl; reach = refl }; wide = refl; count = refl }
+value-snoc xs b d = value-split xs b (d ∷ []) ∙ rw (places-one b d, value-one d)

@@ -1,11 +1,10 @@
 -- What a test chooses, shown by the test. Assumes nothing.
-use mathlib.Core.Path.{_≡_, refl, sym, ap, _∙_}
+use mathlib.Core.Path.{_≡_, refl, subst}
 use mathlib.Core.Logic.{_≢_, _⊎_, inl, inr}
-use Prim.Native.Nat.{ℕ, zero, suc, pred, _+_, _-_, _*_, _/_, _%_, _^_, _≤_, _<_}
-use native.Mathlib.Nat.{pow-suc, pow-succ'}
-use native.Mathlib.Omega.{arith}
+use Prim.Native.Nat.{ℕ, _≤_, _<_}
 use mathlib.Core.Bool.{Bool, true, false, cond, not}
-use lib.Dec.{T, ltb, leb, eqb, eqb→eq, eqb-refl, not-T, ltb→lt, nltb→le}
+use lib.Dec.{T, ltb, eqb, eqb→eq, eqb-refl, not-T, T-not, lt→ltb}
+use lib.Arith.{le→nltb}
 
 pub by-cond : {A : Type 0} (P : A → Type 0) (b : Bool) (x y : A) → (T b → P x) → (T (not b) → P y) → P (cond b x y)
 by-cond P true x y f g = f tt
@@ -24,13 +23,13 @@ either true = inl tt
 either false = inr tt
 
 pub neqb→ne : (m n : ℕ) → T (not (eqb m n)) → m ≢ n
-neqb→ne m n h e = lib.Dec.T-not (eqb m n) h (mathlib.Core.Path.subst (λ (k : ℕ). T (eqb m k)) e (eqb-refl m))
+neqb→ne m n h e = T-not (eqb m n) h (subst (λ (k : ℕ). T (eqb m k)) e (eqb-refl m))
 
 ne→neqb : (m n : ℕ) → m ≢ n → T (not (eqb m n))
 ne→neqb m n h = not-T (eqb m n) (λ t. h (eqb→eq m n t))
 
 eq→eqb : (m n : ℕ) → m ≡ n → T (eqb m n)
-eq→eqb m n e = mathlib.Core.Path.subst (λ (k : ℕ). T (eqb m k)) e (eqb-refl m)
+eq→eqb m n e = subst (λ (k : ℕ). T (eqb m k)) e (eqb-refl m)
 
 pub same? : (m n : ℕ) → (m ≡ n) ⊎ (m ≢ n)
 same? m n = go (either (eqb m n))
@@ -47,19 +46,11 @@ pub if-ne : {A : Type 0} (m n : ℕ) (x y : A) → m ≢ n → cond (eqb m n) x 
 if-ne m n x y e = cond-false (eqb m n) x y (ne→neqb m n e)
 
 pub if-lt : {A : Type 0} (m n : ℕ) (x y : A) → m < n → cond (ltb m n) x y ≡ x
-if-lt m n x y h = cond-true (ltb m n) x y (lib.Dec.lt→ltb m n h)
+if-lt m n x y h = cond-true (ltb m n) x y (lt→ltb m n h)
 
 pub if-ge : {A : Type 0} (m n : ℕ) (x y : A) → n ≤ m → cond (ltb m n) x y ≡ y
-if-ge m n x y h = cond-false (ltb m n) x y (lib.Arith.le→nltb m n h)
+if-ge m n x y h = cond-false (ltb m n) x y (le→nltb m n h)
 
 pub by-cond₂ : {A B : Type 0} (P : A → B → Type 0) (b : Bool) (x y : A) (x′ y′ : B) → (T b → P x x′) → (T (not b) → P y y′) → P (cond b x y) (cond b x′ y′)
 by-cond₂ P true x y x′ y′ f g = f tt
 by-cond₂ P false x y x′ y′ f g = g tt
-
-pub is-true : (b : Bool) → T b → b ≡ true
-is-true true t = refl
-is-true false t = absurd t
-
-pub is-false : (b : Bool) → T (not b) → b ≡ false
-is-false true t = absurd t
-is-false false t = refl

@@ -1,14 +1,13 @@
 -- The doublings, as a loop meets them: k are left, and a turn keeps what holds; and all of them at once. Assumes nothing.
 use mathlib.Core.Path.{_≡_, refl, sym, ap, _∙_}
 use mathlib.Core.Bool.{Bool, true, false, cond}
-use Prim.Native.Nat.{ℕ, zero, suc, _+_, _-_, _*_, _^_, _≤_, _<_}
-use native.Mathlib.Nat.{pow-succ', mul-one, add-zero, mul-comm}
-use native.Mathlib.Numerals.{add-one}
+use Prim.Native.Nat.{ℕ, zero, suc, _+_, _*_, _^_, _≤_, _<_}
+use native.Mathlib.Nat.{pow-succ', mul-one, add-zero, add-suc}
 use native.Mathlib.Omega.{arith}
 use lib.Dec.{ltb}
 use borrow.Author.Tests.{lt-ltb}
 use lib.Pow.{pow-mono}
-use Rattle.ground.specs.Tests.{if-lt, if-ge, by-cond₂}
+use Rattle.ground.specs.Tests.{if-lt, if-ge, by-cond₂, by-cond}
 use Rattle.interval.specs.declared.Interval.{Interval}
 use Rattle.interval.specs.Interval.{decision, partOf, doubled, grown, turns}
 
@@ -48,7 +47,7 @@ turns-some n a = by-cond₂ (λ (k : ℕ) (b : Bool). ltb 0 k ≡ b) (ltb a 4096
 pub turns-few : (n a : ℕ) → turns n a ≤ n
 unfolding turns
 turns-few zero a = omega arith
-turns-few (suc n) a = Rattle.ground.specs.Tests.by-cond (λ (k : ℕ). k ≤ suc n) (ltb a 4096) (suc (turns n (2 * a))) 0 (λ t. omega (arith, turns-few n (2 * a))) (λ t. omega arith)
+turns-few (suc n) a = by-cond (λ (k : ℕ). k ≤ suc n) (ltb a 4096) (suc (turns n (2 * a))) 0 (λ t. omega (arith, turns-few n (2 * a))) (λ t. omega arith)
 
 -- ---- the loop: of the interval i, doubled to v by s doublings, k are left
 pub record Left (i v : Interval) (s : ℕ) : Type 0 where
@@ -67,7 +66,7 @@ left-start i p h l =
     record { k = 12; all = refl; same = refl; rest = omega arith; wide = omega arith; some = p; small = h; low = l; count = omega arith }
 
 more : (n l : ℕ) → l < 2 ^ (26 + n) → 2 * l < 2 ^ (26 + suc n)
-more n l h = rw (native.Mathlib.Nat.add-suc 26 n, pow-succ' 2 (26 + n)) (omega arith)
+more n l h = rw (add-suc 26 n, pow-succ' 2 (26 + n)) (omega arith)
 
 again-at : (i v : Interval) (s k : ℕ) → k + s ≡ 12 → grown k v ≡ grown 12 i → turns 12 (i .width) ≡ s + turns k (v .width) → 4096 ≤ v .width * 2 ^ k
     → 1 ≤ v .width → v .low < 2 ^ (26 + s) → v .count ≡ i .count + s → v .width < 4096 → Left i (doubled v) (suc s)

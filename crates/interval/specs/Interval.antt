@@ -1,6 +1,6 @@
 -- Document 01, "The interval and its bytes": the interval, one pel, the doublings. Assumes nothing.
 use Prim.Native.Nat.{ℕ, zero, suc, _+_, _-_, _*_}
-use mathlib.Core.Bool.{Bool, true, false, cond}
+use mathlib.Core.Bool.{Bool, cond}
 use lib.Dec.{ltb}
 use Rattle.interval.specs.declared.Interval.{Interval}
 

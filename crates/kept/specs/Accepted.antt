@@ -1,6 +1,6 @@
 -- Each call that is accepted, on a lawful desk: the cell that it stores. Assumes nothing.
 use mathlib.Core.Path.{_≡_, refl, sym, ap, _∙_, subst}
-use mathlib.Core.Bool.{Bool, true, false, cond, not, _&&_, _||_}
+use mathlib.Core.Bool.{Bool, true, false, cond, not, _&&_}
 use mathlib.Core.List.{List}
 use mathlib.Core.Option.{Option, some, none}
 use Prim.Native.Nat.{ℕ, _*_, _≤_}
@@ -26,11 +26,13 @@ use Rattle.desk.specs.Places.{stateFor, isUsed, isLearned, zeroTable, freePlace
 use Rattle.desk.specs.Lawful.{all, within, lawfulKey, lawfulTable, isZero, noStray, lawfulPage, lawfulPlace, lawful}
 use Rattle.desk.specs.Refusals.{refusal}
 use Rattle.desk.specs.Calls.{openTests, startTable, openPage, reservedPlace, openDesk, leaveTests, learnedPlace, closeDesk, abandonDesk, dropTests, bandOf, writeTests, servedPage, bandDesk, readTests}
-use Rattle.kept.specs.Lists.{no-way, both, not-true, orElse}
-use Rattle.kept.specs.View.{key-only, K, pageKey, viewPageBy}
+use Rattle.turns.specs.Base.{orElse, none-given}
+use Rattle.ground.specs.Bools.{no-way, both, not-true, neither}
+use Rattle.kept.specs.View.{key-only, K, pageKey, viewPageBy, learned-used}
 use Rattle.kept.specs.Sound.{Sound, lawful-sound}
 use Rattle.kept.specs.Bands.{table-lawful, white-clear, last-clear}
-use Rattle.kept.specs.Stored.{cellOf, Stored, page-found, page-there, page-own, place-own, close-stored, abandon-stored, drop-stored, page-stored, new-stored}
+use Rattle.kept.specs.Stored.{Stored, close-stored, abandon-stored, drop-stored, page-stored, new-stored}
+use Rattle.kept.specs.Cells.{cellOf, page-found, page-there, page-own, place-own}
 use Rattle.kept.specs.Passed.{Passed, passed}
 
 -- ---- what a lawful page and a learned place have
@@ -64,7 +66,7 @@ place-table q h l =
         → cond (isUsed (q .state)) (leb (q .state) 2 && (lawfulKey (q .school) (q .class) && cond b (lawfulTable (q .table .entries)) (isZero (q .table .entries)))) (eqb (q .school) 0 && (eqb (q .class) 0 && isZero (q .table .entries))) ≡ true
         → (leb (q .state) 2 && (lawfulKey (q .school) (q .class) && lawfulTable (q .table .entries))) ≡ true
     go false e h = no-way (sym e)
-    go true e h = rw (Rattle.kept.specs.View.learned-used (q .state) l) at h
+    go true e h = rw (learned-used (q .state) l) at h
 
 learned-lawful : (k : Key) (t : Table) → lawfulKey (k .school) (k .class) ≡ true → lawfulTable (t .entries) ≡ true → lawfulPlace (learnedPlace k t) ≡ true
 unfolding lawfulPlace learnedPlace
@@ -193,11 +195,7 @@ module _ (d : Desk) where
 
     pub drop-then : Stored d (withPlace d (tableFound d k) freePlace) k (cell none none)
     unfolding dropTests
-    drop-then = drop-stored d drop-sound k (no-page (cellOf d k .page) (sym (page-found d drop-sound k) ∙ passed (dropTests d k) r .opened)) (not-true (isFound (tableFound d k)) (passed (dropTests d k) r .untaught))
-      where
-        no-page : (o : Option Page) → given o ≡ false → o ≡ none
-        no-page none h = refl
-        no-page (some p) h = no-way h
+    drop-then = drop-stored d drop-sound k (none-given (cellOf d k .page) (sym (page-found d drop-sound k) ∙ passed (dropTests d k) r .opened)) (not-true (isFound (tableFound d k)) (passed (dropTests d k) r .untaught))
 
   module _ (ask : Ask) (pels out : List ℕ) (r : refusal (writeTests d ask pels out) ≡ 0) where
     pub write-sound : Sound d
@@ -228,10 +226,6 @@ module _ (d : Desk) where
     unfolding readTests
     read-page = sym (page-found d read-sound (ask .key)) ∙ not-true (isFound (pageFound d (ask .key))) (passed (readTests d ask code out) r .none)
 
-    either-false : (a b : Bool) → (a || b) ≡ false → a ≡ false
-    either-false true b h = h
-    either-false false b h = refl
-
     pub read-then : (band : List ℕ) → IsBand (pageAt d (pageFound d (ask .key)) .width) (ask .rows) band
         → Stored d (bandDesk d (ask .key) (bandOf (pageAt d (pageFound d (ask .key))) (ask .rows) band)) (ask .key)
         (cell (cellOf d (ask .key) .learned) (some (servedPage (pageAt d (pageFound d (ask .key))) (bandOf (pageAt d (pageFound d (ask .key))) (ask .rows) band))))
@@ -239,5 +233,5 @@ module _ (d : Desk) where
     read-then band b =
         let t : Passed (readTests d ask code out) = passed (readTests d ask code out) r in
         written-then d read-sound (ask .key) read-page (ask .rows) band
-        (leb-true 1 (ask .rows) (both (leb 1 (ask .rows)) (leb (ask .rows) maxRows) (not-true (within 1 (ask .rows) maxRows) (either-false (not (within 1 (ask .rows) maxRows)) (ltb maxCode (length code)) (t .size))) .0))
+        (leb-true 1 (ask .rows) (both (leb 1 (ask .rows)) (leb (ask .rows) maxRows) (not-true (within 1 (ask .rows) maxRows) (neither (not (within 1 (ask .rows) maxRows)) (ltb maxCode (length code)) (t .size) .0)) .0))
         (b .size) (b .padded)

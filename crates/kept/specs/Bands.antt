@@ -2,7 +2,7 @@
 use mathlib.Core.Path.{_≡_, refl, sym, ap, _∙_, subst}
 use mathlib.Core.Bool.{Bool, true, false, cond, _&&_}
 use mathlib.Core.List.{List, [], _∷_, _++_}
-use Prim.Native.Nat.{ℕ, zero, suc, _+_, _-_, _*_, _%_, _^_, _≤_}
+use Prim.Native.Nat.{ℕ, zero, suc, _-_, _*_, _%_, _^_, _≤_}
 use native.Mathlib.Nat.{suc-mul, zero-mod}
 use native.Mathlib.Omega.{arith}
 use lib.Dec.{eqb, leb}
@@ -16,7 +16,7 @@ use Rattle.estimate.specs.Laws.{next-lawful}
 use Rattle.template.specs.Pels.{rowBytes, rowAt, bandTo, rowPadded, bandPadded}
 use Rattle.band.specs.Band.{qScheme, qWriter, qPage, pageAt, white, lastBytes, lastRow, written}
 use Rattle.desk.specs.Lawful.{all, lawfulTable, isZero, noStray}
-use Rattle.kept.specs.Lists.{both, and-true}
+use Rattle.ground.specs.Bools.{both, and-true}
 
 -- ---- the table
 all-set : {A : Type 0} (p : A → Bool) (s : List A) (i : ℕ) (a : A) → all p s ≡ true → p a ≡ true → all p (set s i a) ≡ true

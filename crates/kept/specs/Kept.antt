@@ -19,11 +19,13 @@ use Rattle.desk.specs.Places.{zeroTable, unusedPage, freePlace, emptyDesk, noPa
 use Rattle.desk.specs.Lawful.{all, any, apart, lawfulPage, lawfulPlace, lawful}
 use Rattle.desk.specs.Refusals.{refusal}
 use Rattle.desk.specs.Calls.{refused, done, unless, openTests, openDesk, openSpec, leaveTests, closeDesk, closeSpec, abandonDesk, abandonSpec, dropTests, dropSpec, lookTests, lookSpec, bandOf, writeTests, bandDesk, writeSpec, readTests, readSpec, readLent, ReadOutcome}
-use Rattle.kept.specs.Lists.{orElse}
+use Rattle.turns.specs.Base.{orElse}
 use Rattle.kept.specs.View.{sameKey}
 use Rattle.kept.specs.Sound.{Sound, sound-lawful}
-use Rattle.kept.specs.Stored.{cellOf, Stored, stored-sound, stored-others, page-found, page-there, table-found, table-there, noTable}
+use Rattle.kept.specs.Stored.{Stored, stored-sound, stored-others}
+use Rattle.kept.specs.Cells.{cellOf, page-found, page-there, table-found, table-there, noTable}
 use Rattle.kept.specs.Accepted.{close-then, abandon-then, open-sound, open-then, leave-sound, leave-page, drop-sound, drop-then, write-sound, write-then, read-sound, read-then}
+use Rattle.turns.specs.Desk.{given}
 
 -- the empty desk is lawful
 pub empty-lawful : lawful emptyDesk ≡ true
@@ -53,9 +55,9 @@ keeps-stored d d′ k y s c =
     by-cell : (j : Key) → Sound d′ → cellOf d′ j ≡ cellOf d j → SameFor j d d′
     by-cell j s′ e =
         record {
-          page-found = page-found d′ s′ j ∙ ap (λ (x : Cell Table Page). Rattle.turns.specs.Desk.given (x .page)) e ∙ sym (page-found d s j);
+          page-found = page-found d′ s′ j ∙ ap (λ (x : Cell Table Page). given (x .page)) e ∙ sym (page-found d s j);
           page = page-there d′ s′ j ∙ ap (λ (x : Cell Table Page). orElse (x .page) noPage) e ∙ sym (page-there d s j);
-          table-found = table-found d′ s′ j ∙ ap (λ (x : Cell Table Page). Rattle.turns.specs.Desk.given (x .learned)) e ∙ sym (table-found d s j);
+          table-found = table-found d′ s′ j ∙ ap (λ (x : Cell Table Page). given (x .learned)) e ∙ sym (table-found d s j);
           table = table-there d′ s′ j ∙ ap (λ (x : Cell Table Page). orElse (x .learned) noTable) e ∙ sym (table-there d s j);
         }
 

@@ -2,6 +2,8 @@ pub mod Lists
 pub mod View
 pub mod Sound
 pub mod Bands
+pub mod Cells
+pub mod Changes
 pub mod Stored
 pub mod Passed
 pub mod Accepted

@@ -1,11 +1,13 @@
 -- Rows of structs: what is found from the front, and what a change at the index found leaves. Assumes nothing.
 use mathlib.Core.Path.{_≡_, refl, sym, ap, _∙_}
-use mathlib.Core.Bool.{Bool, true, false, cond, not, _&&_, _||_}
+use mathlib.Core.Bool.{Bool, true, false, cond, _||_}
 use mathlib.Core.List.{List, [], _∷_}
 use mathlib.Core.Option.{Option, some, none}
 use Prim.Native.Nat.{ℕ, suc, _+_}
 use native.Mathlib.Omega.{arith}
 use lib.ListN.{getD, set}
+use Rattle.turns.specs.Base.{orElse}
+use Rattle.ground.specs.Bools.{no-way, both, and-true}
 use Rattle.turns.specs.Desk.{given}
 use Rattle.turns.specs.Rows.{atFirst}
 use Rattle.desk.specs.declared.Page.{Page}
@@ -16,37 +18,14 @@ use Rattle.desk.specs.declared.Found.the-variants.{At, Nothing}
 use Rattle.desk.specs.Places.{findBy, isFound, pageAt, placeAt, withPage, withPlace, noPage, noPlace}
 use Rattle.desk.specs.Lawful.{all, any}
 
--- ---- tests
-pub no-way : {A : Type 0} → true ≡ false → A
-no-way e = let z : _≡_ {A = ℕ} 0 1 = cc in absurd (omega arith)
-
-pub both : (a b : Bool) → (a && b) ≡ true → (a ≡ true) × (b ≡ true)
-both true b h = (refl, h)
-both false b h = no-way (sym h)
-
-pub and-true : (a b : Bool) → a ≡ true → b ≡ true → (a && b) ≡ true
-and-true a b p q = rw (p, q)
-
-pub not-true : (b : Bool) → not b ≡ false → b ≡ true
-not-true true h = refl
-not-true false h = no-way h
-
-pub is-not : (b : Bool) → not b ≡ true → b ≡ false
-is-not true h = no-way (sym h)
-is-not false h = refl
-
 -- ---- the first that passes
 unfoldable pub pick : {A : Type 0} → (A → Bool) → List A → Option A
 pick t [] = none
 pick t (x ∷ s) = cond (t x) (some x) (pick t s)
 
-abbrev pub orElse : {A : Type 0} → Option A → A → A
-orElse none a = a
-orElse (some b) a = b
-
 pub pick-passes : {A : Type 0} (t : A → Bool) (s : List A) (a : A) → pick t s ≡ some a → t a ≡ true
 unfolding pick
-pick-passes t [] a e = let z : _≡_ {A = ℕ} 0 1 = cc in absurd (omega arith)
+pick-passes t [] a e = no-way (ap given (sym e))
 pick-passes {A} t (x ∷ s) a e = go (t x) refl e (pick-passes t s a)
   where
     go : (b : Bool) → t x ≡ b → cond b (some x) (pick t s) ≡ some a → (pick t s ≡ some a → t a ≡ true) → t a ≡ true
@@ -55,7 +34,7 @@ pick-passes {A} t (x ∷ s) a e = go (t x) refl e (pick-passes t s a)
 
 pub pick-all : {A : Type 0} (p t : A → Bool) (s : List A) (a : A) → all p s ≡ true → pick t s ≡ some a → p a ≡ true
 unfolding pick all
-pick-all p t [] a h e = let z : _≡_ {A = ℕ} 0 1 = cc in absurd (omega arith)
+pick-all p t [] a h e = no-way (ap given (sym e))
 pick-all {A} p t (x ∷ s) a h e = go (t x) e (pick-all p t s a (both (p x) (all p s) h .1))
   where
     go : (b : Bool) → cond b (some x) (pick t s) ≡ some a → (pick t s ≡ some a → p a ≡ true) → p a ≡ true
@@ -92,7 +71,7 @@ setAt Nothing s a = s
 -- with the index written as an offset, so that nothing is subtracted
 found-from : {A : Type 0} (t : A → Bool) (z a : A) (s : List A) (b i : ℕ) → findBy t s b ≡ At i → (n : ℕ) × (i ≡ b + n) × (getD s n z ≡ orElse (pick t s) z) × (set s n a ≡ atFirst t a s)
 unfolding findBy atFirst pick
-found-from t z a [] b i e = let z : _≡_ {A = ℕ} 0 1 = cc in absurd (omega arith)
+found-from t z a [] b i e = no-way (ap isFound (sym e))
 found-from {A} t z a (x ∷ s) b i e = go (t x) e (λ f. found-from t z a s (suc b) i f)
   where
     go : (v : Bool) → cond v (At b) (findBy t s (suc b)) ≡ At i
@@ -108,7 +87,7 @@ found-none {A} t a (x ∷ s) b e = go (t x) e (found-none t a s (suc b))
   where
     go : (v : Bool) → cond v (At b) (findBy t s (suc b)) ≡ Nothing → (findBy t s (suc b) ≡ Nothing → (pick t s ≡ none) × (s ≡ atFirst t a s))
         → (cond v (some x) (pick t s) ≡ none) × (x ∷ s ≡ cond v (a ∷ s) (x ∷ atFirst t a s))
-    go true f ih = let z : _≡_ {A = ℕ} 0 1 = cc in absurd (omega arith)
+    go true f ih = no-way (ap isFound f)
     go false f ih = (ih f .0, ap (λ l. x ∷ l) (ih f .1))
 
 pub value-found : {A : Type 0} (t : A → Bool) (z : A) (s : List A) → valueAt (findBy t s 0) s z ≡ orElse (pick t s) z

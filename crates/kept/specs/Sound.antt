@@ -8,6 +8,7 @@ use Prim.Native.Nat.{ℕ, zero, suc}
 use native.Mathlib.Omega.{arith}
 use lib.Dec.{eqb, leb}
 use borrow.Author.Tests.{eqb-true, leb-true}
+use Rattle.turns.specs.Base.{none-given}
 use Rattle.turns.specs.Desk.{given}
 use Rattle.turns.specs.Slots.{find, Lone}
 use Rattle.turns.specs.Shelves.{join, placeOf, Fitting}
@@ -18,8 +19,9 @@ use Rattle.desk.specs.declared.Place.{Place}
 use Rattle.desk.specs.declared.Desk.{Desk}
 use Rattle.desk.specs.Places.{isUsed, isLearned, isPageOf, isPlaceOf}
 use Rattle.desk.specs.Lawful.{all, any, apart, lawfulKey, lawfulTable, isZero, lawfulPage, lawfulPlace, samePages, samePlaces, pageHasPlace, placeHasPage, lawful}
-use Rattle.kept.specs.Lists.{no-way, both, and-true, is-not, pick, pick-all, pick-any}
-use Rattle.kept.specs.View.{sameKey, key-self, key-only, K, pageKey, placeKey, viewPageBy, viewPage, learnedBy, learnedIn, viewPlaceBy, viewPlace, shelves, page-read, place-read, mapped}
+use Rattle.kept.specs.Lists.{pick, pick-all, pick-any, pick-passes}
+use Rattle.ground.specs.Bools.{no-way, both, and-true, not-false, or-true}
+use Rattle.kept.specs.View.{sameKey, key-self, key-only, K, pageKey, placeKey, viewPageBy, viewPage, learnedBy, learnedIn, viewPlaceBy, viewPlace, shelves, page-read, place-read, mapped, given-mapped}
 
 pub record Sound (d : Desk) : Type 0 where
   pub pages-lawful : all lawfulPage (d .pages) ≡ true
@@ -27,16 +29,8 @@ pub record Sound (d : Desk) : Type 0 where
   pub fitting : Fitting K Table Page (shelves d)
 
 -- ---- different keys
-none-given : {A : Type 0} (o : Option A) → given o ≡ false → o ≡ none
-none-given none h = refl
-none-given (some a) h = no-way h
-
 page-any : (k : Key) (s : List Page) → given (find K Page k (map viewPage s)) ≡ any (isPageOf k) s
 page-any k s = ap given (page-read k s) ∙ pick-any (isPageOf k) s
-
-given-mapped : {A B : Type 0} (f : A → B) (o : Option A) → given (mapped f o) ≡ given o
-given-mapped f none = refl
-given-mapped f (some a) = refl
 
 place-any : (k : Key) (s : List Place) → given (find K (Option Table) k (map viewPlace s)) ≡ any (isPlaceOf k) s
 place-any k s = ap given (place-read k s) ∙ given-mapped learnedIn (pick (isPlaceOf k) s) ∙ pick-any (isPlaceOf k) s
@@ -47,7 +41,7 @@ pages-lone [] h = tt
 pages-lone (p ∷ s) h = go (isUsed (p .state)) (both (not (any (samePages p) s)) (apart samePages s) h .0) (pages-lone s (both (not (any (samePages p) s)) (apart samePages s) h .1))
   where
     go : (b : Bool) → not (any (λ q. b && isPageOf (pageKey p) q) s) ≡ true → Lone K Page (map viewPage s) → Lone K Page (viewPageBy b p ∷ map viewPage s)
-    go true n ih = (none-given (find K Page (pageKey p) (map viewPage s)) (page-any (pageKey p) s ∙ is-not (any (isPageOf (pageKey p)) s) n), ih)
+    go true n ih = (none-given (find K Page (pageKey p) (map viewPage s)) (page-any (pageKey p) s ∙ not-false (any (isPageOf (pageKey p)) s) n), ih)
     go false n ih = ih
 
 places-lone : (s : List Place) → apart samePlaces s ≡ true → Lone K (Option Table) (map viewPlace s)
@@ -56,7 +50,7 @@ places-lone [] h = tt
 places-lone (p ∷ s) h = go (isUsed (p .state)) (both (not (any (samePlaces p) s)) (apart samePlaces s) h .0) (places-lone s (both (not (any (samePlaces p) s)) (apart samePlaces s) h .1))
   where
     go : (b : Bool) → not (any (λ q. b && isPlaceOf (placeKey p) q) s) ≡ true → Lone K (Option Table) (map viewPlace s) → Lone K (Option Table) (viewPlaceBy b p ∷ map viewPlace s)
-    go true n ih = (none-given (find K (Option Table) (placeKey p) (map viewPlace s)) (place-any (placeKey p) s ∙ is-not (any (isPlaceOf (placeKey p)) s) n), ih)
+    go true n ih = (none-given (find K (Option Table) (placeKey p) (map viewPlace s)) (place-any (placeKey p) s ∙ not-false (any (isPlaceOf (placeKey p)) s) n), ih)
     go false n ih = ih
 
 any-never : {A : Type 0} (s : List A) → any (λ q. false) s ≡ false
@@ -102,12 +96,8 @@ module _ {A : Type 0} (u : A → Bool) (keyOf : A → Key) (Q : Key → Bool) wh
   key-each : (s : List A) → ((j : Key) → any (under j) s ≡ true → Q j ≡ true) → all (λ a. not (u a) || Q (keyOf a)) s ≡ true
   unfolding all any
   key-each [] h = refl
-  key-each (a ∷ s) h = and-true (not (u a) || Q (keyOf a)) (all (λ a. not (u a) || Q (keyOf a)) s) (go (u a) (h (keyOf a))) (key-each s (λ j e. h j (more (u a && sameKey (keyOf a) j) (any (under j) s) e)))
+  key-each (a ∷ s) h = and-true (not (u a) || Q (keyOf a)) (all (λ a. not (u a) || Q (keyOf a)) s) (go (u a) (h (keyOf a))) (key-each s (λ j e. h j (or-true (u a && sameKey (keyOf a) j) (any (under j) s) e)))
     where
-      more : (b c : Bool) → c ≡ true → (b || c) ≡ true
-      more true c e = refl
-      more false c e = e
-
       go : (b : Bool) → (((b && sameKey (keyOf a) (keyOf a)) || any (under (keyOf a)) s) ≡ true → Q (keyOf a) ≡ true) → (not b || Q (keyOf a)) ≡ true
       go true f = f (rw (key-self (keyOf a)))
       go false f = refl
@@ -121,16 +111,12 @@ isReservedOf k q = isReserved q && sameKey (placeKey q) k
 
 pick-some-any : {A : Type 0} (t u : A → Bool) (s : List A) (a : A) → pick t s ≡ some a → u a ≡ true → any u s ≡ true
 unfolding pick any
-pick-some-any t u [] a e h = let z : _≡_ {A = ℕ} 0 1 = cc in absurd (omega arith)
+pick-some-any t u [] a e h = no-way (ap given (sym e))
 pick-some-any {A} t u (x ∷ s) a e h = go (t x) e (pick-some-any t u s a)
   where
-    more : (b c : Bool) → c ≡ true → (b || c) ≡ true
-    more true c e = refl
-    more false c e = e
-
     go : (b : Bool) → cond b (some x) (pick t s) ≡ some a → (pick t s ≡ some a → u a ≡ true → any u s ≡ true) → (u x || any u s) ≡ true
     go true f ih = let q : x ≡ a = cc in rw (q, h)
-    go false f ih = more (u x) (any u s) (ih f h)
+    go false f ih = or-true (u x) (any u s) (ih f h)
 
 -- used, not learned, at most 2: reserved
 state-one : (n : ℕ) → isUsed n ≡ true → isLearned n ≡ false → leb n 2 ≡ true → eqb n 1 ≡ true
@@ -148,14 +134,14 @@ find-reserved : (k : Key) (s : List Place) → all lawfulPlace s ≡ true → fi
 find-reserved k s h e = go (pick (isPlaceOf k) s) refl (sym (place-read k s) ∙ e)
   where
     learned-not : (b : Bool) (q : Place) → learnedBy b q ≡ none → b ≡ false
-    learned-not true q e = let z : _≡_ {A = ℕ} 0 1 = cc in absurd (omega arith)
+    learned-not true q e = no-way (ap given e)
     learned-not false q e = refl
 
     go : (o : Option Place) → pick (isPlaceOf k) s ≡ o → mapped learnedIn o ≡ some none → any (isReservedOf k) s ≡ true
-    go none f m = let z : _≡_ {A = ℕ} 0 1 = cc in absurd (omega arith)
+    go none f m = no-way (ap given (sym m))
     go (some q) f m =
         let i : learnedBy (isLearned (q .state)) q ≡ none = cc in
-        let p = both (isUsed (q .state)) (sameKey (placeKey q) k) (Rattle.kept.specs.Lists.pick-passes (isPlaceOf k) s q f) in
+        let p = both (isUsed (q .state)) (sameKey (placeKey q) k) (pick-passes (isPlaceOf k) s q f) in
         pick-some-any (isPlaceOf k) (isReservedOf k) s q f
         (and-true (isReserved q) (sameKey (placeKey q) k) (state-one (q .state) (p .0) (learned-not (isLearned (q .state)) q i) (state-few q (pick-all lawfulPlace (isPlaceOf k) s q h f) (p .0))) (p .1))
 
@@ -192,14 +178,14 @@ fits-by none none f g = refl
 
 page-placed : (o : Option (Option Table)) (p : Option Page) → o ≡ placeOf (join o) p → given p ≡ true → given o ≡ true
 page-placed (some t) p e h = refl
-page-placed none (some p) e h = let z : _≡_ {A = ℕ} 0 1 = cc in absurd (omega arith)
+page-placed none (some p) e h = no-way (ap given (sym e))
 page-placed none none e h = no-way (sym h)
 
 reserved-paged : (o : Option (Option Table)) (p : Option Page) → o ≡ placeOf (join o) p → o ≡ some none → given p ≡ true
 reserved-paged o (some p) e h = refl
-reserved-paged (some none) none e h = let z : _≡_ {A = ℕ} 0 1 = cc in absurd (omega arith)
-reserved-paged (some (some t)) none e h = let z : _≡_ {A = ℕ} 0 1 = cc in absurd (omega arith)
-reserved-paged none none e h = let z : _≡_ {A = ℕ} 0 1 = cc in absurd (omega arith)
+reserved-paged (some none) none e h = no-way (ap given e)
+reserved-paged (some (some t)) none e h = no-way (ap (λ o. given (join o)) h)
+reserved-paged none none e h = no-way (ap given (sym h))
 
 pub lawful-sound : (d : Desk) → lawful d ≡ true → Sound d
 unfolding lawful shelves

@@ -4,7 +4,6 @@ use mathlib.Core.Bool.{Bool, true, false, cond, not, _&&_}
 use mathlib.Core.List.{List, [], _∷_, map}
 use mathlib.Core.Option.{Option, some, none}
 use Prim.Native.Nat.{ℕ}
-use native.Mathlib.Omega.{arith}
 use lib.Dec.{eqb}
 use borrow.Author.Tests.{eqb-true, eq-eqb}
 use Rattle.turns.specs.Service.{Keys}
@@ -18,7 +17,8 @@ use Rattle.desk.specs.declared.Page.{Page}
 use Rattle.desk.specs.declared.Place.{Place}
 use Rattle.desk.specs.declared.Desk.{Desk}
 use Rattle.desk.specs.Places.{isUsed, isLearned, isPageOf, isPlaceOf, isTableOf, isFreePage, isFreePlace}
-use Rattle.kept.specs.Lists.{no-way, both, pick}
+use Rattle.kept.specs.Lists.{pick}
+use Rattle.ground.specs.Bools.{no-way, both}
 
 -- ---- keys: the school and the class
 abbrev pub sameKey : Key → Key → Bool
@@ -118,6 +118,10 @@ abbrev pub mapped : {A B : Type 0} → (A → B) → Option A → Option B
 mapped f none = none
 mapped f (some a) = some (f a)
 
+pub given-mapped : {A B : Type 0} (f : A → B) (o : Option A) → given (mapped f o) ≡ given o
+given-mapped f none = refl
+given-mapped f (some a) = refl
+
 pub place-read : (k : Key) (s : List Place) → find K (Option Table) k (map viewPlace s) ≡ mapped learnedIn (pick (isPlaceOf k) s)
 unfolding find pick
 place-read k [] = refl
@@ -176,8 +180,8 @@ no-place-no-table k (q ∷ s) h = go (isUsed (q .state)) (isLearned (q .state)) 
   where
     go : (u l e : Bool) → (l ≡ true → u ≡ true) → cond (u && e) (some q) (pick (isPlaceOf k) s) ≡ none → (pick (isPlaceOf k) s ≡ none → pick (isTableOf k) s ≡ none)
         → cond (l && e) (some q) (pick (isTableOf k) s) ≡ none
-    go true true true i h ih = let z : _≡_ {A = ℕ} 0 1 = cc in absurd (omega arith)
-    go true false true i h ih = let z : _≡_ {A = ℕ} 0 1 = cc in absurd (omega arith)
+    go true true true i h ih = no-way (ap given h)
+    go true false true i h ih = no-way (ap given h)
     go false true e i h ih = no-way (sym (i refl))
     go false false e i h ih = ih h
     go true true false i h ih = ih h
@@ -185,7 +189,7 @@ no-place-no-table k (q ∷ s) h = go (isUsed (q .state)) (isLearned (q .state)) 
 
 nothing-mapped : {A B : Type 0} (f : A → B) (o : Option A) → mapped f o ≡ none → o ≡ none
 nothing-mapped f none e = refl
-nothing-mapped f (some a) e = let z : _≡_ {A = ℕ} 0 1 = cc in absurd (omega arith)
+nothing-mapped f (some a) e = no-way (ap given e)
 
 record TableFirst (k : Key) (s : List Place) : Type 0 where
   read : join (find K (Option Table) k (map viewPlace s)) ≡ mapped (λ (q : Place). q .table) (pick (isTableOf k) s)

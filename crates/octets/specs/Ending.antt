@@ -1,22 +1,20 @@
 -- The end as a loop meets it: a last byte is one move of zeros and a byte. Assumes nothing.
-use mathlib.Core.Path.{_≡_, refl, sym, ap, ap₂, _∙_, subst}
-use mathlib.Core.Logic.{_≢_, _⊎_, inl, inr}
-use Prim.Native.Nat.{ℕ, zero, suc, _+_, _-_, _*_, _/_, _%_, _^_, _≤_, _<_}
-use native.Mathlib.Nat.{pow-succ', mul-one, sub-zero, sub-self}
-use native.Mathlib.Numerals.{add-one}
+use mathlib.Core.Path.{_≡_, refl, sym, ap, _∙_, subst}
+use mathlib.Core.Logic.{_≢_}
+use Prim.Native.Nat.{ℕ, zero, suc, _+_, _-_, _*_, _%_, _^_, _≤_, _<_}
+use native.Mathlib.Nat.{pow-succ', mul-one, sub-zero}
 use native.Mathlib.Omega.{arith}
 use mathlib.Core.List.{List, [], _∷_, _++_, append-assoc}
 use lib.ListN.{length, take, set, length-set}
 use lib.Seq.{take-suc-set}
-use Rattle.ground.specs.Tests.{same?, if-eq, if-ne}
+use Rattle.ground.specs.Tests.{if-ne}
 use Rattle.interval.specs.declared.Interval.{Interval}
-use Rattle.octets.specs.declared.Coder.{Coder}
 use Rattle.octets.specs.declared.Byte.{Byte}
 use Rattle.octets.specs.Octets.{Registers, bits, carried, left, byte, pad, pads, lastByte, cover, finish, bytes}
 use Rattle.octets.specs.Unit.{unit, unit-pred, unit-zero}
-use Rattle.octets.specs.Fit.{Fit, Rest, fit-byte, byte-some, bits-ff, bits-else}
+use Rattle.octets.specs.Fit.{Fit, Rest, fit-byte, byte-few, bits-few}
 use Rattle.octets.specs.Loops.{behind, behind-cover}
-use Rattle.octets.specs.Lift.{Out, lift, there}
+use Rattle.octets.specs.Lift.{Out}
 
 -- ---- zeros are shifted in
 pub fit-pad : (w : Registers) → Rest w → Fit (pad w)
@@ -41,18 +39,7 @@ filled (suc n) w f e = filled n (pad w) (fit-pad w (record { fit = f; wait = ome
 pub rest-last : (w : Registers) → Rest w → Rest (lastByte w)
 rest-last w r =
     let k : Filled (pads (w .until) w) = filled (w .until) w (r .fit) refl in
-    record { fit = fit-byte _ (k .fit) (k .due); wait = byte-some _ }
-
-pub seven-bits : (w : Registers) → 7 ≤ byte w .until
-unfolding byte
-seven-bits w = (go (same? b 255))
-  where
-    b : ℕ
-    b = carried (w .held) (w .interval .low)
-
-    go : (b ≡ 255) ⊎ (b ≢ 255) → 7 ≤ bits b
-    go (inl e) = omega (arith, bits-ff b e)
-    go (inr e) = omega (arith, bits-else b e)
+    record { fit = fit-byte _ (k .fit) (k .due); wait = omega (arith, byte-few (pads (w .until) w)) }
 
 -- n zeros at once
 shifted : (n : ℕ) (w : Registers) → pads n w
@@ -128,11 +115,7 @@ module _ (i : Interval) (low until held : ℕ) (v : Byte) (o : Out held (low * 2
       ∙ bytes-behind (v .settled ∷ []) (cover k (r - v .bits) (stays i (v .low) (v .bits) (v .held)))
 
   seven-next : 7 ≤ v .bits
-  seven-next = rw (o .bits′) (go (same? (carried held (low * 2 ^ until)) 255))
-    where
-      go : (carried held (low * 2 ^ until) ≡ 255) ⊎ (carried held (low * 2 ^ until) ≢ 255) → 7 ≤ bits (carried held (low * 2 ^ until))
-      go (inl e) = omega (arith, bits-ff _ e)
-      go (inr e) = omega (arith, bits-else _ e)
+  seven-next = rw (o .bits′) (bits-few (carried held (low * 2 ^ until)) .0)
 
   again : (all xs : List ℕ) (r n k : ℕ) → k + n ≡ 4 → r ≤ 7 * k → Rest (stays i low until held) → length xs ≡ 5 → take n xs ++ bytes (cover k r (stays i low until held)) ≡ all
       → r ≢ 0 → Ending i all (set xs n (v .settled)) (v .low) (v .bits) (v .held) (r - v .bits) (suc n)

@@ -1,16 +1,17 @@
--- Bounds that hold of every reachable state (I1 to I3), and what a byte that is due does to the numbers. Assumes nothing.
+-- Bounds that hold of every state that a band can come to, and what a byte that is due does to the numbers. Assumes nothing.
 use mathlib.Core.Path.{_≡_, refl, sym, ap, _∙_, subst}
 use mathlib.Core.Logic.{_≢_, _⊎_, inl, inr}
-use Prim.Native.Nat.{ℕ, zero, suc, pred, _+_, _-_, _*_, _/_, _%_, _^_, _≤_, _<_}
+use Prim.Native.Nat.{ℕ, zero, suc, _+_, _*_, _/_, _%_, _^_, _≤_, _<_}
 use native.Mathlib.Omega.{arith}
-use mathlib.Core.Bool.{Bool, true, false, cond, not}
-use mathlib.Core.List.{List, [], _∷_, _++_}
-use lib.Dec.{T, ltb, leb, eqb, ltb→lt, nltb→le}
-use Rattle.ground.specs.Tests.{by-cond, same?, if-eq, if-ne}
-use Rattle.octets.specs.Unit.{unit, unit-pred, unit-zero, unit-eight, unit-seven, unit-pos}
+use mathlib.Core.Bool.{not}
+use mathlib.Core.List.{List, [], _∷_}
+use lib.Dec.{T, ltb, eqb, ltb→lt, nltb→le, eqb→eq}
+use native.Mathlib.Nat.{pos-of-ne-zero, pow-succ'}
+use Rattle.ground.specs.Tests.{by-cond, same?, if-eq, if-ne, neqb→ne}
+use Rattle.octets.specs.Unit.{unit, unit-scale, unit-pred, unit-zero, unit-eight, unit-seven}
 use Rattle.interval.specs.declared.Interval.{Interval}
-use Rattle.interval.specs.Interval.{Decision, upperPart, lowerPart, turns}
-use Rattle.octets.specs.Octets.{Registers, start, bits, carried, left, byte, due, double, shifts, at, part, pel, run, pad, pads, lastByte, cover, finish}
+use Rattle.interval.specs.Interval.{Decision, upperPart, lowerPart}
+use Rattle.octets.specs.Octets.{Registers, start, bits, carried, left, byte, due, double, shifts, at, part, pel, run}
 
 -- the two parts, with the bytes as they are; what holds of both holds of a pel's
 abbrev pub upper : ℕ → Registers → Registers
@@ -30,8 +31,8 @@ pub record Fit (w : Registers) : Type 0 where
   pub narrow : w .interval .width ≤ 8191
   pub under : 8 * (w .interval .low + w .interval .width) ≤ 9 * unit (w .until)
 
--- a byte made of h and c: b is settled, h' and c' stand in the registers, k bits were brought, u is the unit then
-pub record Made (h c a b k u h' c' : ℕ) : Type 0 where
+-- a byte made of h and c: b is settled, h' and c' stand in the registers, u is the unit then
+pub record Made (h c a b u h' c' : ℕ) : Type 0 where
   pub whole : h * 16777216 + c ≡ b * 16777216 + (h' * u + c')
   pub least : h ≤ b
   pub most : b ≤ suc h
@@ -50,6 +51,24 @@ pub bits-else : (b : ℕ) → b ≢ 255 → bits b ≡ 8
 unfolding bits
 bits-else b e = if-ne b 255 7 8 e
 
+pub bits-few : (b : ℕ) → (7 ≤ bits b) × (bits b ≤ 8)
+bits-few b = go (same? b 255)
+  where
+    go : (b ≡ 255) ⊎ (b ≢ 255) → (7 ≤ bits b) × (bits b ≤ 8)
+    go (inl e) = omega (arith, bits-ff b e)
+    go (inr e) = omega (arith, bits-else b e)
+
+pub byte-until : (w : Registers) → byte w .until ≡ bits (carried (w .held) (w .interval .low))
+unfolding byte
+byte-until w = refl
+
+pub byte-few : (w : Registers) → (7 ≤ byte w .until) × (byte w .until ≤ 8)
+byte-few w = rw (byte-until w) (bits-few (carried (w .held) (w .interval .low)))
+
+-- a unit of the byte that went out is so many of the byte that is then held
+pub byte-scale : (w : Registers) → 2 ^ byte w .until * unit (byte w .until) ≡ 16777216
+byte-scale w = unit-scale (byte w .until) (omega (arith, byte-few w))
+
 pub carried-ff : (h c : ℕ) → h ≡ 255 → carried h c ≡ h
 unfolding carried
 carried-ff h c e = if-eq h 255 h (h + c / 2 ^ 24) e
@@ -67,7 +86,7 @@ unfolding left
 left-else h c e = if-ne h 255 c (c % 2 ^ 24) e
 
 made-8 : (h c a b r : ℕ) → h ≤ 255 → 1 ≤ a → a ≤ 8191 → 8 * (c + a) ≤ 9 * 16777216
-    → h ≢ 255 → b ≡ h + c / 16777216 → r ≡ c % 16777216 → b ≢ 255 → Made h c a b 8 65536 (r / 65536) (r % 65536)
+    → h ≢ 255 → b ≡ h + c / 16777216 → r ≡ c % 16777216 → b ≢ 255 → Made h c a b 65536 (r / 65536) (r % 65536)
 made-8 h c a b r h1 h2 h3 h4 h5 h6 h7 h8 = record {
   whole = omega arith;
   least = omega arith;
@@ -81,7 +100,7 @@ made-8 h c a b r h1 h2 h3 h4 h5 h6 h7 h8 = record {
 }
 
 made-7c : (h c a b r : ℕ) → h ≤ 255 → 1 ≤ a → a ≤ 8191 → 8 * (c + a) ≤ 9 * 16777216
-    → h ≢ 255 → b ≡ h + c / 16777216 → r ≡ c % 16777216 → b ≡ 255 → Made h c a b 7 131072 (r / 131072) (r % 131072)
+    → h ≢ 255 → b ≡ h + c / 16777216 → r ≡ c % 16777216 → b ≡ 255 → Made h c a b 131072 (r / 131072) (r % 131072)
 made-7c h c a b r h1 h2 h3 h4 h5 h6 h7 h8 = record {
   whole = omega arith;
   least = omega arith;
@@ -95,7 +114,7 @@ made-7c h c a b r h1 h2 h3 h4 h5 h6 h7 h8 = record {
 }
 
 made-7 : (h c a b r : ℕ) → 1 ≤ a → a ≤ 8191 → 8 * (c + a) ≤ 9 * 16777216
-    → h ≡ 255 → b ≡ h → r ≡ c → Made h c a b 7 131072 (r / 131072) (r % 131072)
+    → h ≡ 255 → b ≡ h → r ≡ c → Made h c a b 131072 (r / 131072) (r % 131072)
 made-7 h c a b r h2 h3 h4 h5 h6 h7 = record {
   whole = omega arith;
   least = omega arith;
@@ -109,41 +128,31 @@ made-7 h c a b r h2 h3 h4 h5 h6 h7 = record {
 }
 
 -- the byte that is due at w, as numbers
-pub data Byte (w : Registers) : Type 0 where
-  eight : bits (carried (w .held) (w .interval .low)) ≡ 8 → Made (w .held) (w .interval .low) (w .interval .width) (carried (w .held) (w .interval .low)) 8 65536 (byte w .held) (byte w .interval .low) → Byte w
-  seven : bits (carried (w .held) (w .interval .low)) ≡ 7 → Made (w .held) (w .interval .low) (w .interval .width) (carried (w .held) (w .interval .low)) 7 131072 (byte w .held) (byte w .interval .low) → Byte w
+abbrev pub Byte : Registers → Type 0
+Byte w = Made (w .held) (w .interval .low) (w .interval .width) (carried (w .held) (w .interval .low)) (unit (byte w .until)) (byte w .held) (byte w .interval .low)
 
 module _ (w : Registers) (f : Fit w) (z : w .until ≡ 0) where
   below : 8 * (w .interval .low + w .interval .width) ≤ 9 * 16777216
   below = omega (arith, f .under, ap unit z ∙ unit-zero)
 
-  on-eight : bits (carried (w .held) (w .interval .low)) ≡ 8
-      → Made (w .held) (w .interval .low) (w .interval .width) (carried (w .held) (w .interval .low)) 8 65536 (left (w .held) (w .interval .low) / 65536) (left (w .held) (w .interval .low) % 65536) → Byte w
-  unfolding byte
-  on-eight e m =
-      eight e (subst
-      (λ (k : ℕ). Made (w .held) (w .interval .low) (w .interval .width) (carried (w .held) (w .interval .low)) 8 65536 (left (w .held) (w .interval .low) / 2 ^ (24 - k)) (left (w .held) (w .interval .low) % 2 ^ (24 - k)))
-      (sym e) m)
-
-  on-seven : bits (carried (w .held) (w .interval .low)) ≡ 7
-      → Made (w .held) (w .interval .low) (w .interval .width) (carried (w .held) (w .interval .low)) 7 131072 (left (w .held) (w .interval .low) / 131072) (left (w .held) (w .interval .low) % 131072) → Byte w
-  unfolding byte
-  on-seven e m =
-      seven e (subst
-      (λ (k : ℕ). Made (w .held) (w .interval .low) (w .interval .width) (carried (w .held) (w .interval .low)) 7 131072 (left (w .held) (w .interval .low) / 2 ^ (24 - k)) (left (w .held) (w .interval .low) % 2 ^ (24 - k)))
-      (sym e) m)
+  at-unit : (u : ℕ) → unit (bits (carried (w .held) (w .interval .low))) ≡ u
+      → Made (w .held) (w .interval .low) (w .interval .width) (carried (w .held) (w .interval .low)) u (left (w .held) (w .interval .low) / u) (left (w .held) (w .interval .low) % u) → Byte w
+  unfolding byte unit
+  at-unit u e m =
+      subst (λ (x : ℕ). Made (w .held) (w .interval .low) (w .interval .width) (carried (w .held) (w .interval .low)) x (left (w .held) (w .interval .low) / x) (left (w .held) (w .interval .low) % x))
+      (sym e) m
 
   plain : w .held ≢ 255 → (carried (w .held) (w .interval .low) ≡ 255) ⊎ (carried (w .held) (w .interval .low) ≢ 255) → Byte w
   plain n (inl e) =
-      on-seven (bits-ff _ e)
+      at-unit 131072 (ap unit (bits-ff _ e) ∙ unit-seven)
       (made-7c (w .held) (w .interval .low) (w .interval .width) _ _ (f .octet) (f .some) (f .narrow) below n (carried-else _ _ n) (left-else _ _ n) e)
   plain n (inr e) =
-      on-eight (bits-else _ e)
+      at-unit 65536 (ap unit (bits-else _ e) ∙ unit-eight)
       (made-8 (w .held) (w .interval .low) (w .interval .width) _ _ (f .octet) (f .some) (f .narrow) below n (carried-else _ _ n) (left-else _ _ n) e)
 
   pick : (w .held ≡ 255) ⊎ (w .held ≢ 255) → Byte w
   pick (inl e) =
-      on-seven (bits-ff _ (carried-ff _ _ e ∙ e))
+      at-unit 131072 (ap unit (bits-ff _ (carried-ff _ _ e ∙ e)) ∙ unit-seven)
       (made-7 (w .held) (w .interval .low) (w .interval .width) _ _ (f .some) (f .narrow) below e (carried-ff _ _ e) (left-ff _ _ e))
   pick (inr n) = plain n (same? (carried (w .held) (w .interval .low)) 255)
 
@@ -152,24 +161,11 @@ module _ (w : Registers) (f : Fit w) (z : w .until ≡ 0) where
 
 -- ---- the bounds hold everywhere
 
-fit-made : (w : Registers) → Fit w → Byte w → Fit (byte w)
-unfolding byte
-fit-made w f (eight e m) = record { few = omega (arith, e); octet = m .octet; some = f .some; narrow = f .narrow; under = omega (arith, m .under, ap unit e ∙ unit-eight) }
-fit-made w f (seven e m) = record { few = omega (arith, e); octet = m .octet; some = f .some; narrow = f .narrow; under = omega (arith, m .under, ap unit e ∙ unit-seven) }
-
 pub fit-byte : (w : Registers) → Fit w → w .until ≡ 0 → Fit (byte w)
-fit-byte w f z = fit-made w f (made w f z)
-
-bits-some : (b : ℕ) → 1 ≤ bits b
-bits-some b = go (same? b 255)
-  where
-    go : (b ≡ 255) ⊎ (b ≢ 255) → 1 ≤ bits b
-    go (inl e) = omega (arith, bits-ff b e)
-    go (inr e) = omega (arith, bits-else b e)
-
-pub byte-some : (w : Registers) → 1 ≤ byte w .until
 unfolding byte
-byte-some w = bits-some (carried (w .held) (w .interval .low))
+fit-byte w f z =
+    let m : Byte w = made w f z in
+    record { few = omega (arith, bits-few (carried (w .held) (w .interval .low))); octet = m .octet; some = f .some; narrow = f .narrow; under = m .under }
 
 -- at rest: a shift is to go
 pub record Rest (w : Registers) : Type 0 where
@@ -180,8 +176,8 @@ pub rest-due : (w : Registers) → Fit w → Rest (due w)
 unfolding due
 rest-due w f =
     by-cond Rest (eqb (w .until) 0) (byte w) w
-    (λ t. record { fit = fit-byte w f (lib.Dec.eqb→eq (w .until) 0 t); wait = byte-some w })
-    (λ t. record { fit = f; wait = native.Mathlib.Nat.pos-of-ne-zero (Rattle.ground.specs.Tests.neqb→ne (w .until) 0 t) })
+    (λ t. record { fit = fit-byte w f (eqb→eq (w .until) 0 t); wait = omega (arith, byte-few w) })
+    (λ t. record { fit = f; wait = pos-of-ne-zero (neqb→ne (w .until) 0 t) })
 
 pub fit-double : (w : Registers) → Rest w → w .interval .width < 4096 → Fit (double w)
 fit-double w r h =
@@ -219,7 +215,7 @@ ready-shifts (suc n) w r h =
   where
     enough : (n a b : ℕ) → b ≡ 2 * a → 4096 ≤ a * 2 ^ suc n → 4096 ≤ b * 2 ^ n
     enough n a b e h =
-        let k : a * 2 ^ suc n ≡ a * (2 * 2 ^ n) = ap (λ (x : ℕ). a * x) (native.Mathlib.Nat.pow-succ' 2 n) in
+        let k : a * 2 ^ suc n ≡ a * (2 * 2 ^ n) = ap (λ (x : ℕ). a * x) (pow-succ' 2 n) in
         let m : b * 2 ^ n ≡ 2 * a * 2 ^ n = ap (λ (x : ℕ). x * 2 ^ n) e in
         omega arith
 

@@ -1,9 +1,9 @@
 -- The code's numbers as the definition's registers, and the bytes of one pel as the code makes them: all shifts first, the bytes after.
 -- Assumes nothing.
-use mathlib.Core.Path.{_≡_, refl, sym, ap, ap₂, _∙_, subst}
-use mathlib.Core.Logic.{_≢_, _⊎_, inl, inr}
-use Prim.Native.Nat.{ℕ, zero, suc, _+_, _-_, _*_, _/_, _%_, _^_, _≤_, _<_}
-use native.Mathlib.Nat.{mul-div-mul-right, mul-assoc, mul-one, add-zero, div-add-mod', mod-lt, mul-pos, mul-le-mul-right, div-lt-iff-lt-mul, mul-lt-mul-of-pos-right}
+use mathlib.Core.Path.{_≡_, refl, sym, ap, ap₂, _∙_}
+use mathlib.Core.Logic.{_≢_}
+use Prim.Native.Nat.{ℕ, _+_, _-_, _*_, _/_, _%_, _^_, _≤_, _<_}
+use native.Mathlib.Nat.{mul-div-mul-right, mul-assoc, div-add-mod', mod-lt, mul-pos, mul-le-mul-right, div-lt-iff-lt-mul, mul-lt-mul-of-pos-right}
 use native.Mathlib.Omega.{arith}
 use mathlib.Core.List.{List, [], _∷_, _++_}
 use lib.ListN.{take}
@@ -14,8 +14,7 @@ use Rattle.octets.specs.declared.Coder.{Coder}
 use Rattle.octets.specs.declared.Byte.{Byte}
 use Rattle.octets.specs.declared.Put.{Put}
 use Rattle.octets.specs.Octets.{Registers, bits, carried, left, byte}
-use Rattle.ground.specs.Tests.{same?}
-use Rattle.octets.specs.Fit.{carried-ff, carried-else, left-ff, left-else, bits-ff, bits-else}
+use Rattle.octets.specs.Fit.{carried-ff, carried-else, left-ff, left-else, bits-ff, bits-else, bits-few}
 use Rattle.octets.specs.Loops.{steps, steps-few, steps-at, jump}
 
 abbrev pub lift : Coder → List ℕ → Registers
@@ -25,7 +24,7 @@ lift c xs = record { interval = c .interval; until = c .until; held = c .held; s
 abbrev pub settledOf : Put → List ℕ
 settledOf p = take (p .settled) (p .first ∷ p .second ∷ [])
 
--- a byte made of the held byte h and the low end c, with c at the scale p
+-- a byte made of the held byte h and the lower end c, with c at the scale p
 pub record Out (h c p : ℕ) (v : Byte) : Type 0 where
   pub byte : v .settled ≡ carried h c
   pub bits′ : v .bits ≡ bits (carried h c)
@@ -59,7 +58,7 @@ scale-mod c m p h k =
 pub one-carry : (x p : ℕ) → 1 ≤ p → x < 33554432 * p → x / (16777216 * p) ≤ 1
 one-carry x p h l = let k : x / (16777216 * p) < 2 = div-lt-iff-lt-mul {k = 16777216 * p} {x = x} {y = 2} (omega arith) .1 (omega arith) in omega arith
 
--- the three ways of a byte, with the low end x at the scale p
+-- the three ways of a byte, with the lower end x at the scale p
 module _ (h c p x : ℕ) (some : 1 ≤ p) (is : x ≡ c * p) where
   by-out : (b r k m : ℕ) → carried h c ≡ b → left h c ≡ r → bits b ≡ k → 2 ^ (24 - k) ≡ m → 1 ≤ m
       → Out h c p (record { settled = b; held = r * p / (m * p); low = r * p % (m * p); bits = k })
@@ -102,14 +101,14 @@ small-to-ff x p h = small-by 255 _ 131072 7 p h (omega arith) (omega arith) (ome
 pub small-plain : (b x p : ℕ) → 1 ≤ p → Small p (record { settled = b; held = x % (16777216 * p) / (65536 * p); low = x % (16777216 * p) % (65536 * p); bits = 8 })
 small-plain b x p h = small-by b _ 65536 8 p h (omega arith) (omega arith) (omega (arith, rest-short x p h)) (omega arith) (omega arith)
 
--- what is left of the low end is small enough for the next byte
+-- what is left of the lower end is small enough for the next byte
 pub short-next : (x j i k : ℕ) → k + i ≡ j → k ≤ 8 → x < 131072 * 2 ^ j → x < 33554432 * 2 ^ i
 short-next x j i k e h l =
     let p : 2 ^ j ≡ 2 ^ k * 2 ^ i = ap (λ (n : ℕ). 2 ^ n) (sym e) ∙ pow-add 2 k i in
     let q : 2 ^ k ≤ 256 = pow-mono {i = k} {j = 8} h in
     omega (arith, mul-le-mul-right (2 ^ i) q)
 
--- ---- j shifts are left when the byte goes out: c, a and s are the low end, the width and the count there
+-- ---- j shifts are left when the byte goes out: c, a and s are the lower end, the width and the count there
 abbrev pub there : List ℕ → ℕ → ℕ → ℕ → ℕ → Registers
 there xs c a s h = record { interval = record { low = c; width = a; count = s }; until = 0; held = h; settled = xs }
 
@@ -136,19 +135,8 @@ module _ (xs : List ℕ) (c a s h j : ℕ) (v : Byte) (o : Out h c (2 ^ j) v) wh
       ∙ ap (λ (n : ℕ). left h c % 2 ^ (24 - bits (carried h c)) * n) (pow-add 2 (bits (carried h c)) i)
       ∙ sym (mul-assoc (left h c % 2 ^ (24 - bits (carried h c))) (2 ^ bits (carried h c)) (2 ^ i))
 
-  pub low-small : lowThen < 2 ^ 24
-  low-small = go (same? (carried h c) 255)
-    where
-      go : (carried h c ≡ 255) ⊎ (carried h c ≢ 255) → left h c % 2 ^ (24 - bits (carried h c)) * 2 ^ bits (carried h c) < 2 ^ 24
-      go (inl y) = rw (bits-ff (carried h c) y) (omega arith)
-      go (inr y) = rw (bits-else (carried h c) y) (omega arith)
-
   bits-some : 1 ≤ bits (carried h c)
-  bits-some = go (same? (carried h c) 255)
-    where
-      go : (carried h c ≡ 255) ⊎ (carried h c ≢ 255) → 1 ≤ bits (carried h c)
-      go (inl y) = omega (arith, bits-ff (carried h c) y)
-      go (inr y) = omega (arith, bits-else (carried h c) y)
+  bits-some = omega (arith, bits-few (carried h c))
 
   abbrev next : Registers
   next = there (xs ++ (v .settled ∷ [])) lowThen (a * 2 ^ v .bits) (s + v .bits) (v .held)

@@ -1,17 +1,15 @@
 -- For code over these definitions: nothing looks at the settled bytes, so a function may hand back only those that it settles; and the
 -- doublings of a pel may be done in jumps, up to the next byte at once. Assumes nothing.
-use mathlib.Core.Path.{_≡_, refl, sym, ap, ap₂, _∙_, subst}
-use Prim.Native.Nat.{ℕ, zero, suc, _+_, _-_, _*_, _/_, _%_, _^_, _≤_, _<_}
-use native.Mathlib.Nat.{pow-succ', mul-one, add-zero, sub-zero}
+use mathlib.Core.Path.{_≡_, refl, sym, ap, _∙_}
+use Prim.Native.Nat.{ℕ, zero, suc, _+_, _-_, _*_, _≤_, _<_}
+use native.Mathlib.Nat.{sub-zero, suc-add, zero-add}
 use native.Mathlib.Omega.{arith}
-use mathlib.Core.Bool.{Bool, true, false, cond, not}
 use mathlib.Core.List.{List, [], _∷_, _++_, append-assoc}
-use lib.Dec.{T, ltb, eqb, eqb→eq}
-use Rattle.ground.specs.Tests.{by-cond, by-cond₂, if-eq, if-ne, if-lt, if-ge}
-use Rattle.interval.specs.declared.Interval.{Interval}
+use lib.Dec.{ltb, eqb}
+use Rattle.ground.specs.Tests.{by-cond, by-cond₂, if-eq, if-ne}
 use Rattle.interval.specs.Interval.{Decision, turns}
 use Rattle.interval.specs.Growing.{jumped, jumped-none, jumped-more}
-use Rattle.octets.specs.Octets.{Registers, start, bits, carried, left, byte, due, double, shifts, at, part, pel, run, pad, pads, lastByte, cover, finish}
+use Rattle.octets.specs.Octets.{Registers, carried, byte, due, double, shifts, part, pel, pad, pads, lastByte, cover, finish}
 use Rattle.octets.specs.Fit.{due-width, due-count, by-part}
 
 -- ---- bytes before
@@ -37,11 +35,6 @@ behind-shifts (suc n) xs w =
 
 pub behind-pel : (d : Decision) (xs : List ℕ) (w : Registers) → pel d (behind xs w) ≡ behind xs (pel d w)
 behind-pel d xs w = behind-shifts 12 xs (part d w)
-
-pub behind-run : (ds : List Decision) (xs : List ℕ) (w : Registers) → run ds (behind xs w) ≡ behind xs (run ds w)
-unfolding run
-behind-run [] xs w = refl
-behind-run (d ∷ ds) xs w = ap (run ds) (behind-pel d xs w) ∙ behind-run ds xs (pel d w)
 
 behind-pads : (n : ℕ) (xs : List ℕ) (w : Registers) → pads n (behind xs w) ≡ behind xs (pads n w)
 unfolding pads
@@ -111,9 +104,9 @@ steps-few (suc k) w h =
 pub steps-byte : (j k : ℕ) (w : Registers) → w .until ≡ suc j → steps (suc j + k) w ≡ steps k (byte (jump (suc j) w))
 unfolding steps
 steps-byte zero k w e =
-    ap (λ (n : ℕ). steps n w) (native.Mathlib.Nat.suc-add 0 k ∙ ap suc (native.Mathlib.Nat.zero-add k)) ∙ ap (steps k) (due-now (double w) (omega arith) ∙ ap byte (sym (jump-zero (double w)) ∙ jump-double 0 w))
+    ap (λ (n : ℕ). steps n w) (suc-add 0 k ∙ ap suc (zero-add k)) ∙ ap (steps k) (due-now (double w) (omega arith) ∙ ap byte (sym (jump-zero (double w)) ∙ jump-double 0 w))
 steps-byte (suc j) k w e =
-    ap (λ (n : ℕ). steps n w) (native.Mathlib.Nat.suc-add (suc j) k) ∙ ap (steps (suc j + k)) (due-not (double w) (omega arith))
+    ap (λ (n : ℕ). steps n w) (suc-add (suc j) k) ∙ ap (steps (suc j + k)) (due-not (double w) (omega arith))
     ∙ steps-byte j k (double w) (omega arith) ∙ ap (λ (v : Registers). steps k (byte v)) (jump-double (suc j) w)
 
 -- the same, for a number of shifts that is not 0

@@ -1,7 +1,7 @@
 -- One pel as the code codes it: the interval first, the bytes after. Assumes nothing.
 use mathlib.Core.Path.{_≡_, refl, sym, ap, _∙_, subst}
 use Prim.Native.Nat.{ℕ, _+_, _-_, _*_, _^_, _≤_, _<_}
-use native.Mathlib.Nat.{mul-assoc, add-sub-of-le, sub-add-cancel, mul-le-mul-right, mul-lt-mul-of-pos-right}
+use native.Mathlib.Nat.{mul-assoc, add-sub-of-le, mul-le-mul-right, mul-lt-mul-of-pos-right}
 use native.Mathlib.Omega.{arith}
 use mathlib.Core.Bool.{Bool}
 use mathlib.Core.List.{List, []}
@@ -11,14 +11,10 @@ use Rattle.interval.specs.Interval.{decision, partOf, turns, coded}
 use Rattle.interval.specs.Growing.{jumped, grown-jumped, turns-few}
 use Rattle.octets.specs.declared.Coder.{Coder}
 use Rattle.octets.specs.Octets.{Registers, byte, part, pel}
-use Rattle.octets.specs.Unit.{unit}
+use Rattle.octets.specs.Unit.{unit, unit-scale}
 use Rattle.octets.specs.Fit.{Fit, Rest, Ready, rest-part}
 use Rattle.octets.specs.Loops.{shifts-steps, steps, steps-few, steps-at}
 use Rattle.octets.specs.Lift.{lift, there}
-
-unit-scale : (t : ℕ) → t ≤ 24 → unit t * 2 ^ t ≡ 16777216
-unfolding unit
-unit-scale t h = sym (pow-add 2 (24 - t) t) ∙ ap (λ (n : ℕ). 2 ^ n) (sub-add-cancel h)
 
 unit-most : (t : ℕ) → unit t ≤ 16777216
 unfolding unit
@@ -74,7 +70,7 @@ module _ (r : Coder) (q : ℕ) (e : Bool) (ready : Ready (lift r [])) (some : 1 
   before : P .low * 2 ^ r .until < 33554432
   before =
       let f : Fit (part (decision q e) (lift r [])) = parted .fit in
-      let u : unit (r .until) * 2 ^ r .until ≡ 16777216 = unit-scale (r .until) (omega (arith, f .few)) in
+      let u : 2 ^ r .until * unit (r .until) ≡ 16777216 = unit-scale (r .until) (omega (arith, f .few)) in
       let m : 8 * (P .low + P .width) * 2 ^ r .until ≤ 9 * unit (r .until) * 2 ^ r .until = mul-le-mul-right (2 ^ r .until) (f .under) in
       omega arith
 

@@ -1,8 +1,9 @@
 -- The unit of the held byte, a power of two, and its laws. Assumes nothing.
-use mathlib.Core.Path.{_≡_, refl, ap, _∙_}
+use mathlib.Core.Path.{_≡_, refl, sym, ap, _∙_}
 use Prim.Native.Nat.{ℕ, suc, _-_, _*_, _^_, _≤_}
-use native.Mathlib.Nat.{pow-succ'}
+use native.Mathlib.Nat.{pow-succ', add-sub-of-le}
 use native.Mathlib.Omega.{arith}
+use lib.Pow.{pow-add, pow-pos}
 
 -- the unit of the held byte, when t shifts are to go
 unfoldable pub unit : ℕ → ℕ
@@ -27,6 +28,10 @@ pub unit-seven : unit 7 ≡ 131072
 unfolding unit
 unit-seven = refl
 
+pub unit-scale : (t : ℕ) → t ≤ 24 → 2 ^ t * unit t ≡ 16777216
+unfolding unit
+unit-scale t h = sym (pow-add 2 t (24 - t)) ∙ ap (λ (n : ℕ). 2 ^ n) (add-sub-of-le h)
+
 pub unit-pos : (t : ℕ) → 1 ≤ unit t
 unfolding unit
-unit-pos t = lib.Pow.pow-pos (24 - t)
+unit-pos t = pow-pos (24 - t)

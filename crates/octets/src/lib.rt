@@ -1,10 +1,10 @@
 // The byte rules: one pel, and the end.
 ghost use mathlib.Core.Path.{_≡_};
-ghost use mathlib.Core.List.{List, []};
+ghost use mathlib.Core.List.{[]};
 ghost use lib.ListN.{take};
 ghost use Prim.Native.Nat.{ℕ, _+_, _-_, _*_, _≤_, _<_, _^_};
 ghost use Rattle.interval.specs.Interval.{decision, partOf, turns};
-ghost use Rattle.octets.specs.Octets.{start, part, pel, byte, bytes, finish};
+ghost use Rattle.octets.specs.Octets.{start, pel, byte, bytes, finish};
 ghost use Rattle.octets.specs.Fit.{Rest, Ready};
 ghost use Rattle.octets.specs.Loops.{steps};
 ghost use Rattle.octets.specs.Lift.{Out, Small, lift, settledOf, there};

@@ -18,14 +18,14 @@ use Rattle.desk.specs.declared.Key.{Key}
 use Rattle.desk.specs.declared.Desk.{Desk}
 use Rattle.desk.specs.Places.{emptyDesk, unusedPage, freePlace}
 use Rattle.desk.specs.Lawful.{lawful}
-use Rattle.kept.specs.Lists.{orElse}
+use Rattle.turns.specs.Base.{orElse}
 use Rattle.kept.specs.View.{shelves}
 use Rattle.kept.specs.Sound.{Sound}
-use Rattle.kept.specs.Stored.{cellOf, noTable, table-found, table-there}
-use Rattle.kept.specs.Kept.{empty-lawful}
+use Rattle.kept.specs.Cells.{cellOf, noTable, table-found, table-there}
 use Rattle.serial.specs.Run.{Call, Reading, AllDone, calling, markOf, step, run, after, learnedTable}
 use Rattle.serial.specs.Office.{bureau}
-use Rattle.serial.specs.Bridge.{Alike, alike, step-lawful}
+use Rattle.serial.specs.Bridge.{alike, step-lawful}
+use Rattle.serial.specs.Alike.{Alike}
 
 module _ (R : Reading) where
   pub record SameRun (d : Desk) (cs : List Call) : Type 0 where
@@ -71,7 +71,3 @@ module _ (R : Reading) where
       go : (o : Option Table) → cond (given o) (some (orElse o noTable)) none ≡ o
       go none = refl
       go (some t) = refl
-
-  -- refusal 12 never comes in a run from the empty desk
-  pub reached-lawful : (cs : List Call) → lawful (after R emptyDesk cs) ≡ true
-  reached-lawful cs = same-run cs emptyDesk empty-lawful .stays

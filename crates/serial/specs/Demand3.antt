@@ -7,7 +7,7 @@ use mathlib.Core.Bool.{Bool, false}
 use mathlib.Core.List.{List}
 use Rattle.turns.specs.Service.{Entry, calls}
 use Rattle.turns.specs.Serial.{serial, Whole}
-use Rattle.turns.specs.Sense.{standing, in-order, ofKey, one-key}
+use Rattle.turns.specs.Order.{standing, in-order, ofKey, one-key}
 use Rattle.turns.specs.Strike.{strike, count, nothing-lost}
 use Rattle.turns.specs.Accepted.{AllAccepted, whole-accepted}
 use Rattle.turns.specs.Office.{Cell}
@@ -20,7 +20,7 @@ use Rattle.desk.specs.declared.Key.{Key}
 use Rattle.desk.specs.declared.Page.{Page}
 use Rattle.desk.specs.Places.{emptyDesk, pageFound, isFound}
 use Rattle.kept.specs.Sound.{lawful-sound}
-use Rattle.kept.specs.Stored.{cellOf, page-found}
+use Rattle.kept.specs.Cells.{cellOf, page-found}
 use Rattle.kept.specs.Kept.{empty-lawful}
 use Rattle.serial.specs.Run.{Call, Reading, AllDone, calling, run, after, learnedTable}
 use Rattle.serial.specs.Office.{bureau, bureau-lawful}

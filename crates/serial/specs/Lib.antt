@@ -1,5 +1,6 @@
 pub mod Run
 pub mod Office
+pub mod Alike
 pub mod Bridge
 pub mod Beside
 pub mod Demand3

@@ -4,10 +4,9 @@ use mathlib.Core.Bool.{true, false, not, _||_}
 use mathlib.Core.List.{List, []}
 use mathlib.Core.Option.{Option, some, none}
 use Prim.Native.Nat.{ℕ, zero, suc, _*_}
-use native.Mathlib.Omega.{arith}
 use lib.Dec.{eqb, ltb}
 use lib.ListN.{length}
-use Rattle.turns.specs.Office.{Cell, Result, refuse, accept, Office, cell}
+use Rattle.turns.specs.Office.{Cell, Result, refuse, accept, Office, cell, not-accepted}
 use Rattle.turns.specs.Desk.{given}
 use Rattle.turns.specs.Laws.{Laws, Keeping, laws-by}
 use Rattle.estimate.specs.declared.Table.{Table}
@@ -23,9 +22,10 @@ use Rattle.desk.specs.Places.{maxPages, maxPlaces, stateFor, noPage}
 use Rattle.desk.specs.Lawful.{within, lawfulKey}
 use Rattle.desk.specs.Refusals.{Tests, refusal, lentAfter}
 use Rattle.desk.specs.Calls.{bandOf, servedPage}
-use Rattle.kept.specs.Lists.{no-way, not-true, orElse}
+use Rattle.turns.specs.Base.{orElse, none-given}
+use Rattle.ground.specs.Bools.{not-true}
 use Rattle.kept.specs.View.{sameKey, key-self, key-only}
-use Rattle.kept.specs.Stored.{noTable}
+use Rattle.kept.specs.Cells.{noTable}
 use Rattle.kept.specs.Passed.{passed}
 use Rattle.serial.specs.Run.{Call, opens, writes, reads, closes, abandons, drops, looks, keyOf, kindOf, Reading, Output, foundIn}
 
@@ -208,11 +208,7 @@ module _ (R : Reading) where
   decided : (n : ℕ) (c : Call) (o p : Output) (y z : DeskCell) → decide n c o y ≡ accept p z → (n ≡ 0) × (o ≡ p) × (y ≡ z)
   unfolding decide
   decided zero c o p y z e = (refl, cc, cc)
-  decided (suc n) c o p y z e = let z : _≡_ {A = ℕ} 0 1 = cc in absurd (omega arith)
-
-  none-given : {A : Type 0} (o : Option A) → given o ≡ false → o ≡ none
-  none-given none h = refl
-  none-given (some a) h = no-way h
+  decided (suc n) c o p y z e = not-accepted e
 
   -- a band: a page before and after, the learned table as it was
   served : (x y : DeskCell) (q : Page) → given (x .page) ≡ true → cell (x .learned) (some q) ≡ y → (given (x .page) ≡ true) × (y .learned ≡ x .learned) × (given (y .page) ≡ true)
@@ -236,7 +232,7 @@ module _ (R : Reading) where
     where
       go : (f : Option (List ℕ)) → actRead f x ask code out ≡ accept o y → (given (x .page) ≡ true) × (y .learned ≡ x .learned) × (given (y .page) ≡ true)
       go (some rows) e = let (n, p, q) = decided _ _ _ _ _ _ e in served x y _ (not-true (given (x .page)) (passed (readCell x ask code out) n .none)) q
-      go none e = let z : _≡_ {A = ℕ} 0 1 = cc in absurd (omega arith)
+      go none e = not-accepted e
   keeping (closes k) x o y e =
       let (n, p, q) = decided _ _ _ _ _ _ e in
       (not-true (given (x .page)) (passed (leaveCell x k) n .none), ap (λ (z : DeskCell). z .page) (sym q))

@@ -75,22 +75,20 @@ order =
     ∷ []
 
 -- each answer's number, and the lent buffer after it
-unfoldable pub seen : List (Entry calling) → List (ℕ × List ℕ)
+unfoldable seen : List (Entry calling) → List (ℕ × List ℕ)
 seen [] = []
 seen (e ∷ es) = (e .output .answer .number, e .output .lent) ∷ seen es
 
-module _ (R : Reading) where
+-- what the run shows, for any reader
+record Worked (R : Reading) : Type 0 where
   answered :
       seen (run R emptyDesk turns)
       ≡ (0, []) ∷ (0, []) ∷ (0, 0xAC ∷ 0x10 ∷ 9 ∷ []) ∷ (0, []) ∷ (0, 0x00 ∷ 0x00 ∷ []) ∷ (11, 9 ∷ []) ∷ (9, 0 ∷ []) ∷ (0, []) ∷ (3, []) ∷ (0, 0xA8 ∷ 0x10 ∷ []) ∷ (3, []) ∷ (0, []) ∷ (0, []) ∷ (0, [])
       ∷ (0, []) ∷ (0, 0x00 ∷ 0x00 ∷ []) ∷ []
-  unfolding seen run step keyOf kindOf markOf openTests startTable openPage reservedPlace openDesk openSpec leaveTests learnedPlace closeDesk closeSpec abandonDesk abandonSpec dropTests dropSpec lookTests lookSpec lookLent bandOf writeTests servedPage bandDesk writeSpec writeLent refusal lentAfter all any apart noStray lawfulPage lawfulPlace lawful zeroTable unusedPage freePlace emptyDesk findBy written lastRow white hasRoom pelAt pelsTo bandTo rowPadded bandPadded leftOf rightOf context inFront cleared bits carried octets.left byte due shifts pads cover finish bytes code rowOf rise fall flip next fresh contextOf entryAt size sense taught placed move after
-  answered = refl
-
   served-in-order : calls calling (left R turns) ≡ order
-  unfolding seen run step keyOf kindOf markOf openTests startTable openPage reservedPlace openDesk openSpec leaveTests learnedPlace closeDesk closeSpec abandonDesk abandonSpec dropTests dropSpec lookTests lookSpec lookLent bandOf writeTests servedPage bandDesk writeSpec writeLent refusal lentAfter all any apart noStray lawfulPage lawfulPlace lawful zeroTable unusedPage freePlace emptyDesk findBy written lastRow white hasRoom pelAt pelsTo bandTo rowPadded bandPadded leftOf rightOf context inFront cleared bits carried octets.left byte due shifts pads cover finish bytes code rowOf rise fall flip next fresh contextOf entryAt size sense taught placed move after left serial serialFrom servesAs waitsAs calls
-  served-in-order = refl
-
   answered-again : seen (run R emptyDesk order) ≡ (0, []) ∷ (0, 0x00 ∷ 0x00 ∷ []) ∷ (0, []) ∷ (0, []) ∷ (0, []) ∷ (0, 0xAC ∷ 0x10 ∷ 9 ∷ []) ∷ (0, 0xA8 ∷ 0x10 ∷ []) ∷ (0, []) ∷ []
-  unfolding seen run step keyOf kindOf markOf openTests startTable openPage reservedPlace openDesk openSpec leaveTests learnedPlace closeDesk closeSpec abandonDesk abandonSpec dropTests dropSpec lookTests lookSpec lookLent bandOf writeTests servedPage bandDesk writeSpec writeLent refusal lentAfter all any apart noStray lawfulPage lawfulPlace lawful zeroTable unusedPage freePlace emptyDesk findBy written lastRow white hasRoom pelAt pelsTo bandTo rowPadded bandPadded leftOf rightOf context inFront cleared bits carried octets.left byte due shifts pads cover finish bytes code rowOf rise fall flip next fresh contextOf entryAt size sense taught placed move after
-  answered-again = refl
+
+-- computed: every definition that the run comes through is opened
+worked : (R : Reading) → Worked R
+unfolding seen run step keyOf kindOf markOf left serial serialFrom servesAs waitsAs calls openTests startTable openPage reservedPlace openDesk openSpec leaveTests learnedPlace closeDesk closeSpec abandonDesk abandonSpec dropTests dropSpec lookTests lookSpec lookLent bandOf writeTests servedPage bandDesk writeSpec writeLent refusal lentAfter all any apart noStray lawfulPage lawfulPlace lawful zeroTable unusedPage freePlace emptyDesk findBy written lastRow white hasRoom pelAt pelsTo bandTo rowPadded bandPadded leftOf rightOf context inFront cleared bits carried octets.left byte due shifts pads cover finish bytes code rowOf rise fall flip next fresh contextOf entryAt size sense taught placed move after
+worked R = record { answered = refl; served-in-order = refl; answered-again = refl }

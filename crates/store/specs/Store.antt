@@ -2,13 +2,12 @@
 use mathlib.Core.Path.{_≡_, refl, sym, ap, ap₂, _∙_}
 use Prim.Native.Nat.{ℕ, zero, suc, _+_, _-_, _≤_, _<_}
 use native.Mathlib.Nat.{add-zero, add-suc, suc-add, zero-add}
-use native.Mathlib.Numerals.{add-one}
 use native.Mathlib.Omega.{arith}
-use mathlib.Core.Bool.{Bool, true, false, cond}
+use mathlib.Core.Bool.{cond}
 use mathlib.Core.List.{List, [], _∷_, _++_}
 use lib.Dec.{leb}
-use lib.ListN.{length, getD, take, drop, set, replicate, length-append, length-drop, length-set}
-use lib.Seq.{length-take-le, take-suc, sets, sets-eq, length-sets}
+use lib.ListN.{length, getD, take, drop, set, replicate, length-set}
+use lib.Seq.{length-take-le, take-suc, sets, sets-eq}
 
 -- a result in the front part of a buffer, the rest kept
 unfoldable pub inFront : List ℕ → List ℕ → List ℕ

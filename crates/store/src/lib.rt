@@ -1,7 +1,7 @@
 // Lent buffers: bytes stored at a moving place, a buffer cleared, and the front part handed back.
 ghost use mathlib.Core.Path.{_≡_};
 ghost use mathlib.Core.List.{[], _∷_};
-ghost use Prim.Native.Nat.{ℕ, _+_, _*_, _≤_, _<_};
+ghost use Prim.Native.Nat.{_+_, _≤_, _<_};
 ghost use lib.ListN.{length, take};
 ghost use lib.Seq.{paste};
 ghost use Rattle.store.specs.Store.{cleared, front, storeAt, stores};

@@ -2,10 +2,9 @@
 use mathlib.Core.Path.{_≡_, refl, sym, ap, ap₂, _∙_, subst}
 use mathlib.Core.Logic.{_≢_, _⊎_, inl, inr}
 use Prim.Native.Nat.{ℕ, zero, suc, _+_, _-_, _*_, _/_, _%_, _^_, _≤_, _<_}
-use native.Mathlib.Nat.{pow-succ', div-div-eq-div-mul, div-add-mod', mul-le-mul-right, lt-of-mul-lt-mul-right, mul-assoc, mod-lt}
+use native.Mathlib.Nat.{pow-succ', div-div-eq-div-mul, div-add-mod', mul-le-mul-right, lt-of-mul-lt-mul-right, mod-eq-of-lt}
 use native.Mathlib.Decide.{decLt}
 use native.Mathlib.Omega.{arith}
-use mathlib.Core.Bool.{Bool, true, false}
 use mathlib.Core.List.{List, [], _∷_, _++_}
 use lib.ListN.{getD, set, length, replicate, length-set, getD-replicate, List·getD-eq-default, length-replicate}
 use lib.Seq.{getD-set-same, getD-set-other}
@@ -158,7 +157,7 @@ module _ (row : List ℕ) (x p : ℕ) (w : Row row x) (fits : x < 2048) (bit : p
   clear-next = go (decLt r 7)
     where
       no-rest : (n : ℕ) → 1 ≤ n → 0 % n ≡ 0
-      no-rest n h = native.Mathlib.Nat.mod-eq-of-lt h
+      no-rest n h = mod-eq-of-lt h
 
       go : Dec (r < 7) → getD next (suc x / 8) 0 % 2 ^ (8 - suc x % 8) ≡ 0
       go (yes h) =

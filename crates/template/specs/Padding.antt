@@ -1,5 +1,5 @@
 -- A band's padding, row by row: one row with a stray bit decides. Assumes nothing.
-use mathlib.Core.Path.{_≡_, refl, sym, ap, ap₂, _∙_}
+use mathlib.Core.Path.{_≡_, sym, ap, ap₂, _∙_}
 use Prim.Native.Nat.{ℕ, zero, suc, _+_, _-_, _*_, _%_, _^_, _≤_, _<_}
 use native.Mathlib.Omega.{arith}
 use native.Mathlib.Nat.{suc-mul, mul-le-mul-right}
@@ -7,29 +7,17 @@ use native.Mathlib.Numerals.{add-one}
 use lib.Pow.{pow-pos, pow-mono}
 use lib.Dec.{eqb}
 use lib.ListN.{length, getD, take, drop, length-take, length-drop}
-use mathlib.Core.Bool.{Bool, true, false, _&&_}
+use mathlib.Core.Bool.{true, false, _&&_}
 use mathlib.Core.List.{List}
+use Rattle.ground.specs.Bools.{and-true, and-false}
 use Rattle.ground.specs.Tests.{same?}
 use mathlib.Core.Logic.{_⊎_, inl, inr, _≢_}
 use Rattle.template.specs.Pels.{rowBytes, rowAt, rowPadded, bandPadded}
 
-both : (a b : Bool) → a ≡ true → b ≡ true → true ≡ (a && b)
-both true true p q = refl
-both true false p q = sym q
-both false b p q = sym p
-
-second : (a b : Bool) → b ≡ false → (a && b) ≡ false
-second true b q = q
-second false b q = refl
-
-first : (a b : Bool) → a ≡ false → (a && b) ≡ false
-first true b p = absurd (let z : _≡_ {A = ℕ} 0 1 = cc in omega arith)
-first false b p = refl
-
 -- one row more
 pub padded-next : (width : ℕ) (band : List ℕ) (y : ℕ) → true ≡ bandPadded width band y → rowPadded width (rowAt width band y) ≡ true → true ≡ bandPadded width band (y + 1)
 unfolding bandPadded
-padded-next width band y p q = rw add-one (both (bandPadded width band y) (rowPadded width (rowAt width band y)) (sym p) q)
+padded-next width band y p q = rw add-one (sym (and-true (bandPadded width band y) (rowPadded width (rowAt width band y)) (sym p) q))
 
 -- a row of the band has a stray bit
 pub padded-not : (width : ℕ) (band : List ℕ) (y n : ℕ) → y < n → rowPadded width (rowAt width band y) ≡ false → bandPadded width band n ≡ false
@@ -38,8 +26,8 @@ padded-not width band y zero h q = absurd (omega arith)
 padded-not width band y (suc n) h q = go (same? y n) (λ l. padded-not width band y n l q)
   where
     go : (y ≡ n) ⊎ (y ≢ n) → (y < n → bandPadded width band n ≡ false) → (bandPadded width band n && rowPadded width (rowAt width band n)) ≡ false
-    go (inl e) f = second (bandPadded width band n) (rowPadded width (rowAt width band n)) (rw (← e) q)
-    go (inr e) f = first (bandPadded width band n) (rowPadded width (rowAt width band n)) (f (omega arith))
+    go (inl e) f = rw (← e, q) (and-false (bandPadded width band y))
+    go (inr e) f = rw (f (omega arith))
 
 -- ---- the remainder that a row's last byte leaves
 pub shift-small : (n : ℕ) → n ≤ 7 → (1 * 2 ^ n % 18446744073709551616 ≡ 2 ^ n) × (0 < 2 ^ n)

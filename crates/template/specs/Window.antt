@@ -1,14 +1,14 @@
 -- The context slides: two shift registers, of the row above and of this row, whose sum is document 01's. Assumes nothing.
 use mathlib.Core.Path.{_≡_, refl, sym, ap, _∙_}
-use mathlib.Core.Logic.{_⊎_, inl, inr}
-use Prim.Native.Nat.{ℕ, zero, suc, _+_, _-_, _*_, _/_, _%_, _≤_, _<_}
+use Prim.Native.Nat.{ℕ, zero, suc, _+_, _-_, _*_, _%_, _≤_, _<_}
 use native.Mathlib.Omega.{arith}
 use mathlib.Core.Bool.{Bool, true, false, cond, not}
 use mathlib.Core.List.{List, [], _∷_, _++_}
 use lib.ListN.{getD, length, List·getD-append, List·getD-eq-default, length-append}
 use lib.Seq.{getD-append-seam}
-use lib.Dec.{T, ltb, ltb→lt, nltb→le}
-use Rattle.ground.specs.Tests.{by-cond, if-lt, if-ge}
+use lib.Dec.{T, ltb, nltb→le}
+use native.Mathlib.Decide.{decLt}
+use Rattle.ground.specs.Tests.{by-cond, if-ge}
 use Rattle.template.specs.declared.Window.{Window}
 use Rattle.template.specs.Pels.{pelAt, pelsTo, leftOf, rightOf, context}
 
@@ -25,7 +25,7 @@ length-pels row (suc n) = length-append (pelsTo row n) (pelAt row n ∷ []) ∙ 
 pub pels-at : (row : List ℕ) (n x : ℕ) → x < n → getD (pelsTo row n) x 0 ≡ pelAt row x
 unfolding pelsTo
 pels-at row zero x h = absurd (omega arith)
-pels-at row (suc n) x h = go (native.Mathlib.Decide.decLt x n) (λ l. pels-at row n x l)
+pels-at row (suc n) x h = go (decLt x n) (λ l. pels-at row n x l)
   where
     last : x ≡ n → getD (pelsTo row n ++ (pelAt row n ∷ [])) x 0 ≡ pelAt row x
     last e =
@@ -43,7 +43,7 @@ abbrev pub Bits : List ℕ → Type 0
 Bits row = (x : ℕ) → getD row x 0 ≤ 1
 
 pub pels-bits : (row : List ℕ) (n : ℕ) → Bits (pelsTo row n)
-pels-bits row n x = go (native.Mathlib.Decide.decLt x n)
+pels-bits row n x = go (decLt x n)
   where
     go : Dec (x < n) → getD (pelsTo row n) x 0 ≤ 1
     go (yes l) = rw (pels-at row n x l) (pel-bit row x)
@@ -89,11 +89,6 @@ slid-small above this x w a b s = (
   omega (arith, s .five, a (x + 2), a (x + 1), a (x + 0), left-bit above x 1 a, left-bit above x 2 a),
   omega (arith, s .two, left-bit this x 1 b, left-bit this x 2 b),
 )
-
-pub context-small : (above this : List ℕ) (x : ℕ) → Bits above → Bits this → context above this x < 128
-unfolding context rightOf
-context-small above this x a b =
-    omega (arith, left-bit this x 1 b, left-bit this x 2 b, a (x + 2), a (x + 1), a (x + 0), left-bit above x 1 a, left-bit above x 2 a)
 
 pub slid-start : (above : List ℕ) → Slid above [] 0 (record { above = getD above 2 0 + 2 * getD above 1 0 + 4 * getD above 0 0; this = 0 })
 unfolding rightOf leftOf

@@ -1,9 +1,9 @@
 // Packed rows, their pels, and the context that slides along a row.
 ghost use mathlib.Core.Path.{_≡_};
-ghost use Prim.Native.Nat.{ℕ, _+_, _*_, _%_, _≤_, _<_};
+ghost use Prim.Native.Nat.{_+_, _*_, _%_, _≤_, _<_};
 ghost use mathlib.Core.List.{[]};
 ghost use lib.ListN.{length, getD};
-ghost use Rattle.template.specs.Pels.{rowBytes, pelAt, pelsTo, rowPadded, bandPadded, context};
+ghost use Rattle.template.specs.Pels.{rowBytes, pelAt, pelsTo, rowPadded, bandPadded};
 ghost use Rattle.template.specs.Window.{Slid};
 
 // The bytes of a row.

@@ -8,6 +8,7 @@ use native.Mathlib.Omega.{arith}
 use lib.Dec.{leb}
 use lib.ListN.{length}
 use borrow.Author.Tests.{leb-false, lt-leb}
+use Rattle.ground.specs.Bools.{no-way}
 use Rattle.turns.specs.Service.{Keys, Service, put, Entry, calls}
 use Rattle.turns.specs.Desk.{given, one, placed}
 
@@ -16,20 +17,26 @@ abbrev pub keep : {A : Type 0} → Bool → A → List A → List A
 keep true a l = a ∷ l
 keep false a l = l
 
-pub no-way : {A : Type 0} → true ≡ false → A
-no-way e = let z : _≡_ {A = ℕ} 0 1 = cc in absurd (omega arith)
+-- what an option holds, or a where it holds nothing
+abbrev pub orElse : {A : Type 0} → Option A → A → A
+orElse none a = a
+orElse (some b) a = b
+
+pub none-given : {A : Type 0} (o : Option A) → given o ≡ false → o ≡ none
+none-given none h = refl
+none-given (some a) h = no-way h
 
 pub one-le : (b : Bool) → one b ≤ 1
 one-le true = omega arith
 one-le false = omega arith
 
 -- a cell is reserved where it has a page and no learned table
-abbrev pub kept : {T P : Type 0} → Option T → Option P → Bool
-kept (some t) p = false
-kept none (some p) = true
-kept none none = false
+abbrev pub onlyReserved : {T P : Type 0} → Option T → Option P → Bool
+onlyReserved (some t) p = false
+onlyReserved none (some p) = true
+onlyReserved none none = false
 
-pub placed-sum : {T P : Type 0} (t : Option T) (p : Option P) → one (placed t p) ≡ one (given t) + one (kept t p)
+pub placed-sum : {T P : Type 0} (t : Option T) (p : Option P) → one (placed t p) ≡ one (given t) + one (onlyReserved t p)
 placed-sum (some t) p = refl
 placed-sum none (some p) = refl
 placed-sum none none = refl
@@ -44,19 +51,10 @@ placed-none (some t) p e = refl
 placed-none none (some p) e = no-way (ap given e)
 placed-none none none e = refl
 
-pub kept-page : {T P : Type 0} (t : Option T) (p : Option P) → given t ≡ false → given p ≡ true → kept t p ≡ true
-kept-page (some t) p h q = no-way h
-kept-page none (some p) h q = refl
-kept-page none none h q = no-way (sym q)
-
-pub kept-none : {T P : Type 0} (t : Option T) (p : Option P) → kept t p ≡ true → (given t ≡ false) × (given p ≡ true)
-kept-none (some t) p h = no-way (sym h)
-kept-none none (some p) h = (refl, refl)
-kept-none none none h = no-way (sym h)
-
-pub and-false : (b : Bool) → (b && false) ≡ false
-and-false true = refl
-and-false false = refl
+pub only-reserved : {T P : Type 0} (t : Option T) (p : Option P) → given t ≡ false → given p ≡ true → onlyReserved t p ≡ true
+only-reserved (some t) p h q = no-way h
+only-reserved none (some p) h q = refl
+only-reserved none none h q = no-way (sym q)
 
 -- no room is wanted, or there is room
 pub room-down : (b : Bool) (p a n : ℕ) → (b && leb p a) ≡ false → n ≤ a → (b && leb p n) ≡ false

@@ -1,12 +1,13 @@
 -- Runs of a small office, to see that `serial` is the sentence: computed, not argued. Assumes nothing.
 -- Its coder is a toy: a page's working table is a list of numbers, a band of n joins n to it and answers the whole list; 0 is damaged (10); an empty page cannot be closed (17).
 use mathlib.Core.Path.{_≡_, refl}
-use mathlib.Core.Bool.{Bool, true, false, _&&_}
+use mathlib.Core.Bool.{Bool, true, _&&_}
 use mathlib.Core.List.{List, [], _∷_, _++_}
 use mathlib.Core.Option.{Option, some, none}
 use Prim.Native.Nat.{ℕ, zero, suc}
 use lib.Dec.{eqb}
 use borrow.Author.Tests.{eqb-true, eq-eqb}
+use Rattle.ground.specs.Bools.{both}
 use Rattle.turns.specs.Service.{Kind, opening, band, closing, abandoning, looking, changing, Entry, calls}
 use Rattle.turns.specs.Office.{Result, refuse, accept, Office, service}
 use Rattle.turns.specs.Desk.{newDesk, run, after}
@@ -23,10 +24,6 @@ record Name : Type 0 where
 
 abbrev alike : Name → Name → Bool
 alike j k = eqb (j .school) (k .school) && eqb (j .class) (k .class)
-
-both : (a b : Bool) → (a && b) ≡ true → (a ≡ true) × (b ≡ true)
-both true b h = (refl, h)
-both false b h = let z : _≡_ {A = ℕ} 0 1 = cc in (h, absurd (omega native.Mathlib.Omega.arith))
 
 alike-self : (k : Name) → alike k k ≡ true
 alike-self k = rw (eq-eqb (k .school) (k .school) refl, eq-eqb (k .class) (k .class) refl)
@@ -154,32 +151,35 @@ record Shows (run-of : List Ask) (answers : List Answer) (order : List Ask) (aga
   kept : answersOf (serial (service O) (slotRun O (emptyDesk O) run-of)) ≡ again
   served : answersOf (slotRun O (emptyDesk O) order) ≡ again
 
--- A look of the same key between open and close sees the old table and stands before the page; a refused band is struck out; the page of b moves before that of a.
-looked : Shows
-    (opens a ∷ writes a 3 ∷ closes a ∷ opens a ∷ opens b ∷ writes a 6 ∷ looks a ∷ writes a 0 ∷ writes b 4 ∷ writes a 7 ∷ closes b ∷ closes a ∷ [])
-    ((0, []) ∷ (0, 3 ∷ []) ∷ (0, []) ∷ (0, []) ∷ (0, []) ∷ (0, 3 ∷ 6 ∷ []) ∷ (0, 3 ∷ []) ∷ (10, []) ∷ (0, 4 ∷ []) ∷ (0, 3 ∷ 6 ∷ 7 ∷ []) ∷ (0, []) ∷ (0, []) ∷ [])
-    (opens a ∷ writes a 3 ∷ closes a ∷ looks a ∷ opens b ∷ writes b 4 ∷ closes b ∷ opens a ∷ writes a 6 ∷ writes a 7 ∷ closes a ∷ [])
-    ((0, []) ∷ (0, 3 ∷ []) ∷ (0, []) ∷ (0, 3 ∷ []) ∷ (0, []) ∷ (0, 4 ∷ []) ∷ (0, []) ∷ (0, []) ∷ (0, 3 ∷ 6 ∷ []) ∷ (0, 3 ∷ 6 ∷ 7 ∷ []) ∷ (0, []) ∷ [])
-unfolding slotRun slotStep slotSettle slotAdmit slotStore noSlot noClassPlace frees find erase replace insert update updateBy free actGate actKind serial serialFrom servesAs waitsAs calls answersOf nameOf kindOf gateOf serveOf finishOf lookOf dropOf changeOf
-looked = record { answered = refl; ordered = refl; kept = refl; served = refl }
+record Runs : Type 0 where
+  -- A look of the same key between open and close sees the old table and stands before the page; a refused band is struck out; the page of b moves before that of a.
+  looked : Shows
+      (opens a ∷ writes a 3 ∷ closes a ∷ opens a ∷ opens b ∷ writes a 6 ∷ looks a ∷ writes a 0 ∷ writes b 4 ∷ writes a 7 ∷ closes b ∷ closes a ∷ [])
+      ((0, []) ∷ (0, 3 ∷ []) ∷ (0, []) ∷ (0, []) ∷ (0, []) ∷ (0, 3 ∷ 6 ∷ []) ∷ (0, 3 ∷ []) ∷ (10, []) ∷ (0, 4 ∷ []) ∷ (0, 3 ∷ 6 ∷ 7 ∷ []) ∷ (0, []) ∷ (0, []) ∷ [])
+      (opens a ∷ writes a 3 ∷ closes a ∷ looks a ∷ opens b ∷ writes b 4 ∷ closes b ∷ opens a ∷ writes a 6 ∷ writes a 7 ∷ closes a ∷ [])
+      ((0, []) ∷ (0, 3 ∷ []) ∷ (0, []) ∷ (0, 3 ∷ []) ∷ (0, []) ∷ (0, 4 ∷ []) ∷ (0, []) ∷ (0, []) ∷ (0, 3 ∷ 6 ∷ []) ∷ (0, 3 ∷ 6 ∷ 7 ∷ []) ∷ (0, []) ∷ [])
+  -- An abandoned page goes with all its calls, and its class learns nothing (the look is refused 11); pages never closed go too; a closing refused 17 leaves its page open.
+  struck : Shows
+      (opens a ∷ writes a 3 ∷ opens b ∷ writes b 4 ∷ opens c ∷ abandons a ∷ looks a ∷ opens a ∷ closes a ∷ writes a 5 ∷ closes a ∷ opens c ∷ writes c 9 ∷ writes b 6 ∷ opens x ∷ [])
+      ((0, []) ∷ (0, 3 ∷ []) ∷ (0, []) ∷ (0, 4 ∷ []) ∷ (4, []) ∷ (0, []) ∷ (11, []) ∷ (0, []) ∷ (17, []) ∷ (0, 5 ∷ []) ∷ (0, []) ∷ (0, []) ∷ (0, 9 ∷ []) ∷ (0, 4 ∷ 6 ∷ []) ∷ (1, []) ∷ [])
+      (opens a ∷ writes a 5 ∷ closes a ∷ [])
+      ((0, []) ∷ (0, 5 ∷ []) ∷ (0, []) ∷ [])
+  -- A drop between two pages keeps its place; a drop while the page is open is refused 3; an import keeps its place; a fourth class has no place (5).
+  dropped : Shows
+      (opens a ∷ writes a 3 ∷ drops a ∷ closes a ∷ opens b ∷ writes b 1 ∷ drops a ∷ opens a ∷ writes a 2 ∷ imports c (8 ∷ []) ∷ closes b ∷ closes a ∷ opens d ∷ looks a ∷ looks c ∷ [])
+      ((0, []) ∷ (0, 3 ∷ []) ∷ (3, []) ∷ (0, []) ∷ (0, []) ∷ (0, 1 ∷ []) ∷ (0, []) ∷ (0, []) ∷ (0, 2 ∷ []) ∷ (0, []) ∷ (0, []) ∷ (0, []) ∷ (5, []) ∷ (0, 2 ∷ []) ∷ (0, 8 ∷ []) ∷ [])
+      (opens a ∷ writes a 3 ∷ closes a ∷ drops a ∷ imports c (8 ∷ []) ∷ opens b ∷ writes b 1 ∷ closes b ∷ opens a ∷ writes a 2 ∷ closes a ∷ looks a ∷ looks c ∷ [])
+      ((0, []) ∷ (0, 3 ∷ []) ∷ (0, []) ∷ (0, []) ∷ (0, []) ∷ (0, []) ∷ (0, 1 ∷ []) ∷ (0, []) ∷ (0, []) ∷ (0, 2 ∷ []) ∷ (0, []) ∷ (0, 2 ∷ []) ∷ (0, 8 ∷ []) ∷ [])
 
--- An abandoned page goes with all its calls, and its class learns nothing (the look is refused 11); pages never closed go too; a closing refused 17 leaves its page open.
-struck : Shows
-    (opens a ∷ writes a 3 ∷ opens b ∷ writes b 4 ∷ opens c ∷ abandons a ∷ looks a ∷ opens a ∷ closes a ∷ writes a 5 ∷ closes a ∷ opens c ∷ writes c 9 ∷ writes b 6 ∷ opens x ∷ [])
-    ((0, []) ∷ (0, 3 ∷ []) ∷ (0, []) ∷ (0, 4 ∷ []) ∷ (4, []) ∷ (0, []) ∷ (11, []) ∷ (0, []) ∷ (17, []) ∷ (0, 5 ∷ []) ∷ (0, []) ∷ (0, []) ∷ (0, 9 ∷ []) ∷ (0, 4 ∷ 6 ∷ []) ∷ (1, []) ∷ [])
-    (opens a ∷ writes a 5 ∷ closes a ∷ [])
-    ((0, []) ∷ (0, 5 ∷ []) ∷ (0, []) ∷ [])
+-- computed: every definition that a run comes through is opened
+shown : Runs
 unfolding slotRun slotStep slotSettle slotAdmit slotStore noSlot noClassPlace frees find erase replace insert update updateBy free actGate actKind serial serialFrom servesAs waitsAs calls answersOf nameOf kindOf gateOf serveOf finishOf lookOf dropOf changeOf
-struck = record { answered = refl; ordered = refl; kept = refl; served = refl }
-
--- A drop between two pages keeps its place; a drop while the page is open is refused 3; an import keeps its place; a fourth class has no place (5).
-dropped : Shows
-    (opens a ∷ writes a 3 ∷ drops a ∷ closes a ∷ opens b ∷ writes b 1 ∷ drops a ∷ opens a ∷ writes a 2 ∷ imports c (8 ∷ []) ∷ closes b ∷ closes a ∷ opens d ∷ looks a ∷ looks c ∷ [])
-    ((0, []) ∷ (0, 3 ∷ []) ∷ (3, []) ∷ (0, []) ∷ (0, []) ∷ (0, 1 ∷ []) ∷ (0, []) ∷ (0, []) ∷ (0, 2 ∷ []) ∷ (0, []) ∷ (0, []) ∷ (0, []) ∷ (5, []) ∷ (0, 2 ∷ []) ∷ (0, 8 ∷ []) ∷ [])
-    (opens a ∷ writes a 3 ∷ closes a ∷ drops a ∷ imports c (8 ∷ []) ∷ opens b ∷ writes b 1 ∷ closes b ∷ opens a ∷ writes a 2 ∷ closes a ∷ looks a ∷ looks c ∷ [])
-    ((0, []) ∷ (0, 3 ∷ []) ∷ (0, []) ∷ (0, []) ∷ (0, []) ∷ (0, []) ∷ (0, 1 ∷ []) ∷ (0, []) ∷ (0, []) ∷ (0, 2 ∷ []) ∷ (0, []) ∷ (0, 2 ∷ []) ∷ (0, 8 ∷ []) ∷ [])
-unfolding slotRun slotStep slotSettle slotAdmit slotStore noSlot noClassPlace frees find erase replace insert update updateBy free actGate actKind serial serialFrom servesAs waitsAs calls answersOf nameOf kindOf gateOf serveOf finishOf lookOf dropOf changeOf
-dropped = record { answered = refl; ordered = refl; kept = refl; served = refl }
+shown =
+    record {
+      looked = record { answered = refl; ordered = refl; kept = refl; served = refl };
+      struck = record { answered = refl; ordered = refl; kept = refl; served = refl };
+      dropped = record { answered = refl; ordered = refl; kept = refl; served = refl };
+    }
 
 -- the theorem, for this office
 toy-serialisation : (cs : List Ask) → Served O (newDesk O) (serial (service O) (run O (newDesk O) cs)) (after O (newDesk O) cs)

@@ -28,7 +28,7 @@ abbrev pub hasPlace : {T P : Type 0} → Cell T P → Bool
 hasPlace x = placed (x .learned) (x .page)
 
 module _ (O : Office) where
-  open Office O using (Key, same, Table, Page, Call, Output, key, act, refusal, pages, places)
+  open Office O using (Key, Table, Page, Call, Output, key, act, refusal, pages, places)
 
   pub record Desk : Type 0 where
     pub cells : Key → Cell Table Page

@@ -4,8 +4,11 @@ pub mod Office
 pub mod Desk
 pub mod Base
 pub mod Laws
+pub mod Steps
+pub mod Held
+pub mod Tally
 pub mod Turns
-pub mod Sense
+pub mod Order
 pub mod Strike
 pub mod Slots
 pub mod Rows

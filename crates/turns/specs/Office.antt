@@ -3,6 +3,7 @@ use mathlib.Core.Path.{_≡_}
 use mathlib.Core.Bool.{Bool, true}
 use mathlib.Core.Option.{Option}
 use Prim.Native.Nat.{ℕ}
+use native.Mathlib.Omega.{arith}
 use Rattle.turns.specs.Service.{Kind, Service}
 
 -- What stands under one key: the learned table, if there is one, and the open page, if there is one.
@@ -14,6 +15,9 @@ pub record Cell (Table Page : Type 0) : Type 0 where
 pub data Result (Output A : Type 0) : Type 0 where
   refuse : Output → Result Output A
   accept : Output → A → Result Output A
+
+pub not-accepted : {Output A B : Type 0} {o p : Output} {a : A} → refuse o ≡ accept p a → B
+not-accepted e = let z : _≡_ {A = ℕ} 0 1 = cc in absurd (omega arith)
 
 -- An office: `act` says what a call does to its key's cell where there is room; `pages` and `places` are the room.
 -- A call holds its inputs and the lent buffer as it was; an output holds the answer and the lent buffer as it is then.

@@ -3,11 +3,11 @@ use mathlib.Core.Path.{_≡_, refl, sym, ap, subst}
 use mathlib.Core.Bool.{Bool, true}
 use mathlib.Core.Option.{Option, some, none}
 use Prim.Native.Nat.{ℕ}
-use native.Mathlib.Omega.{arith}
 use Rattle.turns.specs.Service.{Kind, opening, band, closing, abandoning, looking, changing}
-use Rattle.turns.specs.Office.{Cell, Result, refuse, accept, Office, cell}
+use Rattle.turns.specs.Office.{Cell, Result, refuse, accept, Office, cell, not-accepted}
 use Rattle.turns.specs.Desk.{given}
 use Rattle.turns.specs.Laws.{Laws}
+use Rattle.turns.specs.Base.{orElse}
 
 -- Document 01's rules of the calls, over any coder: what each kind of call needs and does.
 pub record Rules : Type 1 where
@@ -39,17 +39,10 @@ pub record Rules : Type 1 where
   -- a drop (11); a call that brings a table in would stand here too
   pub change : Call → Option Table → Result Output (Option Table)
 
-abbrev pub orElse : {A : Type 0} → Option A → A → A
-orElse none a = a
-orElse (some b) a = b
-
 -- what comes of an accepted call, by f
 abbrev pub then : {O A B : Type 0} → Result O A → (A → B) → Result O B
 then (refuse o) f = refuse o
 then (accept o a) f = accept o (f a)
-
-not-accepted : {Out A B : Type 0} {o p : Out} {a : A} → refuse o ≡ accept p a → B
-not-accepted e = let z : _≡_ {A = ℕ} 0 1 = cc in absurd (omega arith)
 
 then-inv : {Out A B : Type 0} (r : Result Out A) (f : A → B) (o : Out) (y : B) → then r f ≡ accept o y → (a : A) × (r ≡ accept o a) × (f a ≡ y)
 then-inv (refuse p) f o y e = not-accepted e

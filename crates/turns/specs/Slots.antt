@@ -8,9 +8,10 @@ use native.Mathlib.Omega.{arith}
 use lib.Dec.{leb}
 use lib.ListN.{length}
 use borrow.Author.Tests.{lt-leb}
+use Rattle.turns.specs.Base.{none-given}
 use Rattle.turns.specs.Service.{Keys}
 use Rattle.turns.specs.Desk.{given, one}
-use Rattle.turns.specs.Base.{no-way}
+use Rattle.ground.specs.Bools.{no-way}
 
 module _ (K : Keys) (A : Type 0) where
   open Keys K using (Key, same, same-self, same-only)
@@ -77,10 +78,6 @@ module _ (K : Keys) (A : Type 0) where
       go : (v : Bool) → same k j ≡ v → v ≡ false
       go true e = no-way (sym (same-self j) ∙ ap (same j) (sym (same-only k j e)) ∙ h)
       go false e = refl
-
-  none-given : (o : Option A) → given o ≡ false → o ≡ none
-  none-given none h = refl
-  none-given (some a) h = no-way h
 
   -- ---- found after a change: another name
   find-erase : (k j : Key) (s : Slots) → same k j ≡ false → find j (erase k s) ≡ find j s

@@ -5,22 +5,6 @@ use desk::Direction;
 use desk::Key;
 use desk::Opening;
 use desk::Outcome;
-use libc::STDOUT_FILENO;
-
-const DIGITS: [u8; 16] = *b"0123456789ABCDEF";
-
-fn put_hex(b: u8) {
-    let text = [b' ', DIGITS[(b / 16) as usize], DIGITS[(b % 16) as usize]];
-    io::write_all(STDOUT_FILENO, &text);
-}
-
-fn put_all(code: &[u8]) {
-    let mut i: usize = 0;
-    while i < code.len() {
-        put_hex(code[i]);
-        i += 1;
-    }
-}
 
 fn the_key() -> Key {
     Key {
@@ -54,12 +38,12 @@ fn band_on(d: Desk, rows: u64, pels: &[u8], out: &mut [u8]) -> Outcome {
 fn line(name: &[u8], d: Desk, rows: u64, pels: &[u8]) {
     let mut out = [0u8; 16];
     let wrote = band_on(d, rows, pels, &mut out);
-    io::write_all(STDOUT_FILENO, name);
-    io::write_all(STDOUT_FILENO, b":");
-    put_all(store::front_of(&out, wrote.answer.length as usize));
-    io::write_all(STDOUT_FILENO, b" S=");
-    io::print_decimal(STDOUT_FILENO, wrote.answer.shifts);
-    io::write_all(STDOUT_FILENO, b"\n");
+    lines::put_text(name);
+    lines::put_text(b":");
+    lines::put_bytes(store::front_of(&out, wrote.answer.length as usize));
+    lines::put_text(b" S=");
+    lines::put_number(wrote.answer.shifts);
+    lines::put_text(b"\n");
 }
 
 // A band on a new page.

@@ -5,8 +5,6 @@ use borrow.Author.Needs.{needs}
 use Rattle.octets.specs.Lift.{out-ff, out-to-ff, out-plain, one-carry, small-ff, small-to-ff, small-plain}
 use Rattle.octets.proofs.byte_out.Statement.{statement}
 use Rattle.octets.proofs.byte_out.Tie as tie
-use Rattle.octets.proofs.byte_out.Reads as reads
-use Rattle.octets.proofs.byte_out.Lts as lts
 
 -- src/lib.rt:46:20
 mul-unit : tie.Need-mul-unit

@@ -6,8 +6,6 @@ use lib.Pow.{shl-exact}
 use borrow.Author.Needs.{needs}
 use Rattle.octets.proofs.power.Statement.{statement}
 use Rattle.octets.proofs.power.Tie as tie
-use Rattle.octets.proofs.power.Reads as reads
-use Rattle.octets.proofs.power.Lts as lts
 
 -- src/lib.rt:37:5
 shl-result : tie.Need-shl-result

@@ -1,15 +1,11 @@
 -- The bytes of a pel, one or two. Assumes nothing.
 use mathlib.Core.Path.{_≡_, refl}
-use Prim.Native.Nat.{ℕ, _+_, _-_, _*_, _^_, _<_}
+use Prim.Native.Nat.{ℕ, _-_, _*_, _^_}
 use native.Mathlib.Omega.{arith}
 use borrow.Author.Needs.{needs}
 use Rattle.octets.specs.Lift.{Out, scale-fits, short-next, settle-one, settle-two}
 use Rattle.octets.proofs.settle.Statement.{statement}
 use Rattle.octets.proofs.settle.Tie as tie
-use Rattle.octets.proofs.settle.Reads as reads
-use Rattle.octets.proofs.settle.Lts as lts
-use Rattle.octets.proofs.byte_out.Reads as byte-out-reads
-use Rattle.octets.proofs.power.Reads as power-reads
 
 -- src/lib.rt:70:38
 power-requires : tie.Need-power-requires

@@ -9,8 +9,6 @@ use borrow.Author.Fill.{fill-none, fill-more}
 use Rattle.store.specs.Store.{cleared}
 use Rattle.store.proofs.clear.Statement.{statement}
 use Rattle.store.proofs.clear.Tie as tie
-use Rattle.store.proofs.clear.Reads as reads
-use Rattle.store.proofs.clear.Lts as lts
 
 abbrev Inv-loop : tie.InvT-loop
 Inv-loop out₀ i₀ out i = (i ≤ length out₀) × (length out ≡ length out₀) × (out ≡ replicate i 0 ++ drop i out₀)

@@ -6,8 +6,6 @@ use Rattle.store.specs.Store.{front}
 use borrow.Author.Needs.{needs}
 use Rattle.store.proofs.front_of.Statement.{statement}
 use Rattle.store.proofs.front_of.Tie as tie
-use Rattle.store.proofs.front_of.Reads as reads
-use Rattle.store.proofs.front_of.Lts as lts
 
 -- src/lib.rt:54:9
 slice-aggregate-result : tie.Need-slice-aggregate-result

@@ -6,8 +6,6 @@ use Rattle.store.specs.Store.{store-none, store-some}
 use borrow.Author.Needs.{needs}
 use Rattle.store.proofs.put.Statement.{statement}
 use Rattle.store.proofs.put.Tie as tie
-use Rattle.store.proofs.put.Reads as reads
-use Rattle.store.proofs.put.Lts as lts
 
 -- src/lib.rt:25:9
 returns : tie.Need-returns

@@ -8,9 +8,6 @@ use lib.ListN.{length, take}
 use Rattle.store.specs.Store.{stores, stores-next, length-stores}
 use Rattle.store.proofs.put_last.Statement.{statement}
 use Rattle.store.proofs.put_last.Tie as tie
-use Rattle.store.proofs.put_last.Reads as reads
-use Rattle.store.proofs.put_last.Lts as lts
-use Rattle.store.proofs.put.Reads as put-reads
 
 abbrev Inv-loop : tie.InvT-loop
 Inv-loop out₀ at n bytes next₀ i₀ out next i = (i ≤ n) × (next ≡ at + i) × (out ≡ stores out₀ at (take i bytes))

@@ -1,6 +1,6 @@
 -- A row put at its place, byte by byte. Assumes nothing.
-use mathlib.Core.Path.{_≡_, refl, ap, _∙_}
-use Prim.Native.Nat.{_+_, _-_, _≤_}
+use mathlib.Core.Path.{_≡_, ap, _∙_}
+use Prim.Native.Nat.{_-_, _≤_}
 use native.Mathlib.Numerals.{add-one}
 use native.Mathlib.Omega.{arith}
 use borrow.Author.Needs.{needs}
@@ -8,8 +8,6 @@ use lib.ListN.{length}
 use lib.Seq.{paste, paste-zero, paste-suc, length-paste}
 use Rattle.store.proofs.put_row.Statement.{statement}
 use Rattle.store.proofs.put_row.Tie as tie
-use Rattle.store.proofs.put_row.Reads as reads
-use Rattle.store.proofs.put_row.Lts as lts
 
 abbrev Inv-loop : tie.InvT-loop
 Inv-loop out₀ from n row i₀ out i = (i ≤ n) × (out ≡ paste out₀ from row i)

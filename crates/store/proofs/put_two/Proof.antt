@@ -1,15 +1,11 @@
 -- The first n of two bytes. Assumes nothing.
-use mathlib.Core.Path.{_≡_, refl, ap, _∙_}
-use native.Mathlib.Nat.{add-zero}
+use mathlib.Core.Path.{_≡_, refl, _∙_}
 use native.Mathlib.Numerals.{add-one}
 use native.Mathlib.Omega.{arith}
 use Rattle.store.specs.Store.{stores}
 use borrow.Author.Needs.{needs}
 use Rattle.store.proofs.put_two.Statement.{statement}
 use Rattle.store.proofs.put_two.Tie as tie
-use Rattle.store.proofs.put_two.Reads as reads
-use Rattle.store.proofs.put_two.Lts as lts
-use Rattle.store.proofs.put.Reads as put-reads
 
 -- src/lib.rt:40:9
 returns : tie.Need-returns

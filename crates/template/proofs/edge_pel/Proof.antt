@@ -5,9 +5,6 @@ use Rattle.template.specs.Window.{pels-at, pels-past}
 use borrow.Author.Needs.{needs}
 use Rattle.template.proofs.edge_pel.Statement.{statement}
 use Rattle.template.proofs.edge_pel.Tie as tie
-use Rattle.template.proofs.edge_pel.Reads as reads
-use Rattle.template.proofs.edge_pel.Lts as lts
-use Rattle.template.proofs.pel_at.Reads as pel-at-reads
 
 -- src/lib.rt:32:16
 pel-at-requires : tie.Need-pel-at-requires

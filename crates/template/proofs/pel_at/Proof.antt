@@ -5,8 +5,6 @@ use Rattle.template.specs.Pels.{pelAt}
 use borrow.Author.Needs.{needs}
 use Rattle.template.proofs.pel_at.Statement.{statement}
 use Rattle.template.proofs.pel_at.Tie as tie
-use Rattle.template.proofs.pel_at.Reads as reads
-use Rattle.template.proofs.pel_at.Lts as lts
 
 -- src/lib.rt:22:13
 shared-slice-read-b : tie.Need-shared-slice-read-b

@@ -1,12 +1,9 @@
+-- One pel coded: its part, then the doublings. Assumes nothing.
 use native.Mathlib.Omega.{arith}
 use borrow.Author.Needs.{needs}
 use Rattle.interval.specs.Growing.{Fits, part-fits}
 use Rattle.interval.proofs.Interval.code.Statement.{statement}
 use Rattle.interval.proofs.Interval.code.Tie as tie
-use Rattle.interval.proofs.Interval.code.Reads as reads
-use Rattle.interval.proofs.Interval.code.Lts as lts
-use Rattle.interval.proofs.Interval.grow.Reads as grow-reads
-use Rattle.interval.proofs.Interval.part.Reads as part-reads
 
 -- src/lib.rt:56:13
 part-requires : tie.Need-part-requires

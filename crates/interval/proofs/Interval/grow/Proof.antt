@@ -1,11 +1,10 @@
+-- The doublings, counted: the loop keeps what is left to do. Assumes nothing.
 use Prim.Native.Nat.{_-_}
 use native.Mathlib.Numerals.{add-one}
 use native.Mathlib.Omega.{arith}
 use Rattle.interval.specs.Growing.{Left, left-start, left-again, left-end, left-low}
 use Rattle.interval.proofs.Interval.grow.Statement.{statement}
 use Rattle.interval.proofs.Interval.grow.Tie as tie
-use Rattle.interval.proofs.Interval.grow.Reads as reads
-use Rattle.interval.proofs.Interval.grow.Lts as lts
 
 abbrev Inv-loop : tie.InvT-loop
 Inv-loop v₀ shifts₀ v shifts = Left v₀ v shifts

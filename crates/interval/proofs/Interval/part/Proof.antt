@@ -1,8 +1,7 @@
+-- The part of the interval that a pel takes, upper or lower. Assumes nothing.
 use borrow.Author.Needs.{needs}
 use Rattle.interval.proofs.Interval.part.Statement.{statement}
 use Rattle.interval.proofs.Interval.part.Tie as tie
-use Rattle.interval.proofs.Interval.part.Reads as reads
-use Rattle.interval.proofs.Interval.part.Lts as lts
 
 -- src/lib.rt:32:36
 add-t5 : tie.Need-add-t5

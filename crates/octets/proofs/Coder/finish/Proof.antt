@@ -1,22 +1,17 @@
 -- The end is the definition's. The loop's invariant: `n` last bytes stand in the array, and what follows from the registers completes the code.
 -- Assumes nothing.
-use mathlib.Core.Path.{_≡_, refl, sym, ap, _∙_}
-use Prim.Native.Nat.{ℕ, _+_, _-_, _*_, _^_, _<_, _≤_}
+use mathlib.Core.Path.{_≡_, refl, sym}
+use Prim.Native.Nat.{_*_, _^_}
 use native.Mathlib.Nat.{mul-one}
 use native.Mathlib.Numerals.{add-one}
 use native.Mathlib.Omega.{arith}
 use Rattle.interval.specs.declared.Interval.{Interval}
 use Rattle.octets.specs.Octets.{bytes, finish}
 use Rattle.octets.specs.Fit.{Rest}
-use Rattle.octets.specs.Lift.{Out, scale-fits}
+use Rattle.octets.specs.Lift.{Out}
 use Rattle.octets.specs.Ending.{stays, Ending, ending-start, ending-low, ending-again, ending-end}
 use Rattle.octets.proofs.Coder.finish.Statement.{statement}
 use Rattle.octets.proofs.Coder.finish.Tie as tie
-use Rattle.octets.proofs.Coder.finish.Reads as reads
-use Rattle.octets.proofs.Coder.finish.Lts as lts
-use Rattle.octets.proofs.byte_out.Reads as byte-out-reads
-use Rattle.octets.proofs.less.Reads as less-reads
-use Rattle.octets.proofs.power.Reads as power-reads
 
 abbrev Inv-loop : tie.InvT-loop
 Inv-loop low₀ until₀ held₀ left₀ xs₀ n₀ low until held left xs n =

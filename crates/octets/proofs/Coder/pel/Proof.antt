@@ -1,14 +1,10 @@
 -- One pel is the definition's. Assumes nothing.
-use mathlib.Core.Path.{_≡_, refl, sym, _∙_}
+use mathlib.Core.Path.{sym, _∙_}
 use native.Mathlib.Omega.{arith}
 use borrow.Author.Needs.{needs}
-use Rattle.octets.specs.OnePel.{low-fits, pel-still, pel-few, pel-bytes, Split, split, left-over}
+use Rattle.octets.specs.OnePel.{low-fits, pel-still, pel-few, pel-bytes, split, left-over}
 use Rattle.octets.proofs.Coder.pel.Statement.{statement}
 use Rattle.octets.proofs.Coder.pel.Tie as tie
-use Rattle.octets.proofs.Coder.pel.Reads as reads
-use Rattle.octets.proofs.Coder.pel.Lts as lts
-use Rattle.interval.proofs.Interval.code.Reads as code-reads
-use Rattle.octets.proofs.settle.Reads as settle-reads
 
 -- src/lib.rt:99:13
 code-requires : tie.Need-code-requires

@@ -1,9 +1,7 @@
+-- The registers at the start of a band. Assumes nothing.
 use borrow.Author.Needs.{needs}
 use Rattle.octets.proofs.Coder.start.Statement.{statement}
 use Rattle.octets.proofs.Coder.start.Tie as tie
-use Rattle.octets.proofs.Coder.start.Reads as reads
-use Rattle.octets.proofs.Coder.start.Lts as lts
-use Rattle.interval.proofs.Interval.whole.Reads as whole-reads
 
 -- src/lib.rt:87:13
 whole-requires : tie.Need-whole-requires

@@ -3,9 +3,6 @@ use Rattle.template.specs.Window.{slid-start}
 use borrow.Author.Needs.{needs}
 use Rattle.template.proofs.Window.start.Statement.{statement}
 use Rattle.template.proofs.Window.start.Tie as tie
-use Rattle.template.proofs.Window.start.Reads as reads
-use Rattle.template.proofs.Window.start.Lts as lts
-use Rattle.template.proofs.edge_pel.Reads as edge-pel-reads
 
 -- src/lib.rt:49:13
 edge-pel-requires : tie.Need-edge-pel-requires

@@ -4,7 +4,8 @@ use mathlib.Core.Bool.{Bool, true, false}
 use mathlib.Core.List.{List, [], _∷_, _++_}
 use Rattle.turns.specs.Service.{Kind, opening, band, closing, abandoning, looking, changing, Mark, accepted, refused, crowded, Service, keys, put, Entry}
 use Rattle.turns.specs.Serial.{Waiting, waitsAs, servesAs, serialFrom, serial}
-use Rattle.turns.specs.Base.{keep, no-way, put-each}
+use Rattle.turns.specs.Base.{keep, put-each}
+use Rattle.ground.specs.Bools.{no-way}
 
 module _ (S : Service) where
   open Service S using (Key, same, same-self, same-only, key, kind)

@@ -1,48 +1,46 @@
+-- The bytes of a slice, written: the loop keeps its index within the slice. Assumes nothing.
 use Prim.Native.Nat.{_≤_, _-_}
 use borrow.Author.Needs.{needs}
 use lib.ListN.{length}
-use Rattle.worked.proofs.put_all.Statement.{statement}
-use Rattle.worked.proofs.put_all.Tie as tie
-use Rattle.worked.proofs.put_all.Reads as reads
-use Rattle.worked.proofs.put_all.Lts as lts
-use Rattle.worked.proofs.put_hex.Reads as put-hex-reads
+use Rattle.lines.proofs.put_bytes.Statement.{statement}
+use Rattle.lines.proofs.put_bytes.Tie as tie
 
 abbrev Inv-loop : tie.InvT-loop
-Inv-loop code i₀ i = i ≤ length code
+Inv-loop bytes i₀ i = i ≤ length bytes
 
 abbrev μ-loop : tie.MeasureT-loop
-μ-loop code i₀ i = length code - i
+μ-loop bytes i₀ i = length bytes - i
 
--- src/main.rt:19:5
+-- src/lib.rt:23:5
 loop-holds : tie.Need-loop-holds Inv-loop μ-loop
 loop-holds c = search needs
 
--- src/main.rt:20:17
+-- src/lib.rt:24:17
 shared-slice-read-put-hex : tie.Need-shared-slice-read-put-hex Inv-loop μ-loop
 shared-slice-read-put-hex c = search needs
 
--- src/main.rt:20:9
+-- src/lib.rt:24:9
 put-hex-requires : tie.Need-put-hex-requires Inv-loop μ-loop
 put-hex-requires c κs = search needs
 
--- src/main.rt:21:9
+-- src/lib.rt:25:9
 add-i : tie.Need-add-i Inv-loop μ-loop
 add-i c = search needs
 
--- src/main.rt:19:5
+-- src/lib.rt:23:5
 loop-less : tie.Need-loop-less Inv-loop μ-loop
 loop-less c = search needs
 
--- src/main.rt:19:5
+-- src/lib.rt:23:5
 loop-again : tie.Need-loop-again Inv-loop μ-loop
 loop-again c = search needs
 
--- src/main.rt:17:1
+-- src/lib.rt:21:1
 returns : tie.Need-returns Inv-loop μ-loop
 returns c = search needs
 
-pub put-all-spec : {M : Type 1} → statement M
-put-all-spec =
+pub put-bytes-spec : {M : Type 1} → statement M
+put-bytes-spec =
     tie.close
     (tie.spec
     Inv-loop
