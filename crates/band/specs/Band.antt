@@ -1,12 +1,12 @@
 -- Document 01: a written band, from the page's working table and last row at that moment. Assumes nothing.
-use Prim.Native.Nat.{ℕ, _+_, _-_, _*_, _≤_}
+use Prim.Native.Nat.{ℕ, _-_, _*_, _≤_}
 use mathlib.Core.Path.{_≡_}
 use mathlib.Core.Option.{Option, some, none}
 use mathlib.Core.Bool.{Bool, true, false, cond, _&&_}
 use mathlib.Core.List.{List, [], _++_}
 use lib.ListN.{getD, length, replicate}
 use lib.Dec.{ltb, leb}
-use Rattle.coder.specs.Writing.{Writer, Model, Stage, after, opening, bandCode, bandCount, bandModel}
+use Rattle.coder.specs.Writing.{Writer, Model, bandCode, bandCount, bandModel}
 use Rattle.coder.specs.Page.{Scheme, Page, page}
 use Rattle.estimate.specs.Estimate.{rowOf, next}
 use Rattle.interval.specs.Interval.{decision}

@@ -1,22 +1,21 @@
 -- A band as the writer meets it, row after row, and its end. Assumes nothing.
 use mathlib.Core.Path.{_≡_, refl, sym, ap, ap₂, _∙_, subst, subst₂}
-use Prim.Native.Nat.{ℕ, zero, suc, _+_, _-_, _*_, _/_, _≤_, _<_}
-use native.Mathlib.Nat.{zero-add, add-zero, zero-mul, suc-mul, mul-le-mul-right}
+use Prim.Native.Nat.{ℕ, zero, suc, _+_, _-_, _*_, _≤_, _<_}
+use native.Mathlib.Nat.{zero-add, zero-mul, suc-mul, mul-le-mul-right}
 use native.Mathlib.Numerals.{add-one}
 use native.Mathlib.Omega.{arith}
-use mathlib.Core.Bool.{Bool, true, false, cond, _&&_}
-use mathlib.Core.List.{List, [], _∷_, _++_, append-assoc}
-use lib.ListN.{getD, length, take, drop, length-append, length-take, length-drop}
-use lib.Dec.{ltb, leb, eqb}
-use Rattle.coder.specs.Writing.{Stage, step, after, after-append, bandCode, bandCount, bandModel}
-use Rattle.coder.specs.Page.{Page, size, sense, move, placed}
+use mathlib.Core.Bool.{Bool, true, false, _&&_}
+use mathlib.Core.List.{List, [], _∷_, _++_}
+use lib.ListN.{length, take, drop, length-append, length-take, length-drop}
+use lib.Dec.{leb, eqb}
+use Rattle.coder.specs.Writing.{Stage, step, after, after-append}
+use Rattle.coder.specs.Page.{Page, size, sense}
 use borrow.Author.Tests.{leb-true}
 use Rattle.estimate.specs.declared.Table.{Table}
 use Rattle.estimate.specs.Estimate.{LawfulTable}
 use Rattle.interval.specs.Interval.{decision}
 use Rattle.octets.specs.declared.Coder.{Coder}
-use Rattle.octets.specs.declared.Ended.{Ended}
-use Rattle.octets.specs.Octets.{Registers, start, pel, finish, bytes, code}
+use Rattle.octets.specs.Octets.{Registers, start, finish, bytes, code}
 use Rattle.octets.specs.Fit.{Ready, ready-start}
 use Rattle.octets.specs.Loops.{behind, behind-pel, behind-finish}
 use Rattle.octets.specs.Lift.{lift}
@@ -25,7 +24,7 @@ use Rattle.store.specs.Store.{stores, stores-append, stores-fit, length-stores,
 use Rattle.template.specs.Pels.{pelsTo, rowAt, rowBytes, bandTo}
 use Rattle.band.specs.declared.Run.{Run}
 use Rattle.band.specs.Band.{qScheme, qWriter, qPage, pageAt, Written, written, lastRow, hasRoom, maxCode, wroteAnswer, wroteOut}
-use Rattle.band.specs.Rows.{stageOf, pageOf, through, RowDone, lift-behind, page-within}
+use Rattle.band.specs.Rows.{stageOf, through, RowDone, lift-behind, page-within}
 
 module _ (width : ℕ) where
   -- the bytes before stay before
@@ -203,9 +202,6 @@ module _ (width : ℕ) (band : List ℕ) (bytes′ : ℕ) (is : bytes′ ≡ row
       let q : suc y * bytes′ ≤ rows * bytes′ = mul-le-mul-right bytes′ h in
       let r : rows * bytes′ ≤ 64 * bytes′ = mul-le-mul-right bytes′ k in
       (omega (arith, suc-mul y bytes′), omega arith)
-
-  pub row-least : (y : ℕ) → 1 ≤ y → bytes′ ≤ y * bytes′
-  row-least y h = omega (arith, mul-le-mul-right bytes′ h)
 
 pub record Sizes (y bytes′ len : ℕ) : Type 0 where
   pub inside : y * bytes′ + bytes′ ≤ len

@@ -1,12 +1,12 @@
 -- The last row as the loop that copies it meets it. Assumes nothing.
-use mathlib.Core.Path.{_≡_, refl, sym, ap, ap₂, _∙_}
-use Prim.Native.Nat.{ℕ, zero, suc, _+_, _-_, _*_, _≤_, _<_}
+use mathlib.Core.Path.{_≡_, sym, ap, ap₂, _∙_}
+use Prim.Native.Nat.{ℕ, suc, _+_, _-_, _*_, _<_}
 use native.Mathlib.Numerals.{add-one}
 use native.Mathlib.Omega.{arith}
 use mathlib.Core.List.{List, [], _∷_, _++_, append-assoc}
 use lib.ListN.{getD, set, length, take, drop, replicate, length-drop}
 use lib.Seq.{set-at, take-suc, length-take-le, getD-drop}
-use Rattle.template.specs.Pels.{rowBytes, rowAt}
+use Rattle.template.specs.Pels.{rowBytes}
 use Rattle.band.specs.Band.{lastRow}
 
 -- i bytes are copied

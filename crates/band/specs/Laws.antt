@@ -1,11 +1,11 @@
 -- What holds of every written band, for every table, last row and pels: its bytes, its value, its length. Assumes nothing.
-use mathlib.Core.Path.{_≡_, refl, sym, ap, _∙_, subst, subst₂}
+use mathlib.Core.Path.{_≡_, refl, sym, ap, subst, subst₂}
 use Prim.Native.Nat.{ℕ, _+_, _-_, _*_, _/_, _^_, _≤_}
 use mathlib.Core.List.{List, [], _∷_}
 use lib.ListN.{length}
 use lib.Dec.{eqb}
 use Rattle.coder.specs.Writing.{Stage, step, after}
-use Rattle.coder.specs.Page.{Page, size, sense}
+use Rattle.coder.specs.Page.{size, sense}
 use Rattle.estimate.specs.Laws.{row-sized}
 use Rattle.interval.specs.Interval.{Decision, decision, whole}
 use Rattle.octets.specs.Octets.{Registers, run, start}

@@ -3,4 +3,5 @@ pub mod Rows
 pub mod Bands
 pub mod LastRow
 pub mod Laws
+pub mod One
 pub mod Worked

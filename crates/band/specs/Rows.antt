@@ -1,11 +1,10 @@
 -- A row as the writer's loop meets it: after x pels the table, the registers, the window and the buffer are the definition's. Assumes nothing.
 use mathlib.Core.Path.{_≡_, refl, sym, ap, ap₂, _∙_, subst}
-use mathlib.Core.Logic.{_≢_, _⊎_, inl, inr}
-use Prim.Native.Nat.{ℕ, zero, suc, _+_, _-_, _*_, _%_, _≤_, _<_}
-use native.Mathlib.Nat.{add-assoc, add-zero}
+use mathlib.Core.Logic.{_⊎_, inl, inr}
+use Prim.Native.Nat.{ℕ, suc, _+_, _*_, _%_, _≤_, _<_}
 use native.Mathlib.Omega.{arith}
 use mathlib.Core.Bool.{Bool, true, false, cond}
-use mathlib.Core.List.{List, [], _∷_, _++_, append-assoc, append-nil}
+use mathlib.Core.List.{List, [], _∷_, _++_, append-nil}
 use lib.ListN.{getD, set, length, take, length-append, length-take}
 use lib.Seq.{set-getD}
 use lib.Dec.{ltb, eqb}
@@ -14,7 +13,7 @@ use Rattle.coder.specs.Writing.{Stage, step, after, after-append}
 use Rattle.coder.specs.Page.{Page, contextOf, entryAt, size, sense, taught, placed, move}
 use Rattle.estimate.specs.declared.Table.{Table}
 use Rattle.estimate.specs.Estimate.{rowOf, next, LawfulEntry, LawfulTable}
-use Rattle.estimate.specs.Laws.{Sized, row-sized, next-lawful, set-lawful}
+use Rattle.estimate.specs.Laws.{row-sized, next-lawful, set-lawful}
 use borrow.Author.Tests.{lt-ltb}
 use Rattle.interval.specs.Interval.{Decision, decision, partOf, turns}
 use Rattle.interval.specs.Growing.{turns-some}
@@ -28,7 +27,7 @@ use Rattle.octets.specs.OnePel.{ready-bare}
 use Rattle.store.specs.Store.{stores, stores-append, length-stores}
 use Rattle.template.specs.Pels.{pelAt, pelsTo, context}
 use Rattle.template.specs.declared.Window.{Window}
-use Rattle.template.specs.Window.{Slid, slid-next, slid-small, slid-context, length-pels, pels-bits, pel-bit}
+use Rattle.template.specs.Window.{Slid, slid-next, slid-small, length-pels, pels-bits, pel-bit}
 use Rattle.band.specs.declared.Pel.{Pel}
 use Rattle.band.specs.Band.{qScheme, qWriter, qPage}
 

@@ -1,9 +1,9 @@
 -- Document 01, "Bands worked by hand": P1 to P11, rows of a single table under a single claim. Assumes nothing.
 use mathlib.Core.Path.{_≡_, refl, sym, ap, _∙_}
 use mathlib.Core.Logic.{_⊎_, inl, inr}
-use Prim.Native.Nat.{ℕ, zero, suc, _+_, _*_, _≤_}
+use Prim.Native.Nat.{ℕ, zero, suc, _*_, _≤_}
 use native.Mathlib.Omega.{arith}
-use mathlib.Core.Bool.{true, false}
+use mathlib.Core.Bool.{false}
 use mathlib.Core.List.{List, [], _∷_}
 use lib.ListN.{getD, length}
 use Rattle.coder.specs.Writing.{after, bandCode}
@@ -12,7 +12,7 @@ use Rattle.estimate.specs.Estimate.{rowOf, rise, fall, flip, next, entryOf, fre
 use Rattle.octets.specs.Octets.{bits, carried, left, byte, due, shifts, pads, cover, finish, bytes, code}
 use Rattle.template.specs.Pels.{rowBytes, rowAt, pelAt, pelsTo, bandTo, leftOf, rightOf, context}
 use Rattle.template.specs.Window.{pel-bit}
-use Rattle.band.specs.Band.{Written, written, lastRow, white, qWriter, qPage, pageAt}
+use Rattle.band.specs.Band.{written, lastRow, white, qWriter, qPage, pageAt}
 
 -- A page so far: its table and last row.
 pub record SoFar : Type 0 where

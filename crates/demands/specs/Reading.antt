@@ -18,7 +18,8 @@ use Rattle.desk.specs.declared.Ask.{Ask}
 use Rattle.desk.specs.declared.Desk.{Desk}
 use Rattle.desk.specs.declared.Outcome.{Outcome}
 use Rattle.desk.specs.Calls.{ReadOutcome}
-use Rattle.kept.specs.Kept.{OneBand, read-unique}
+use Rattle.band.specs.One.{OneBand}
+use Rattle.kept.specs.Kept.{read-unique}
 use Rattle.serial.specs.Run.{Reading}
 use Rattle.demands.specs.Search.{search, found, Fits}
 

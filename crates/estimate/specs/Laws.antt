@@ -1,18 +1,18 @@
 -- What holds of every row: its value is 1 to AC1 hex, and the next entries of a lawful entry are lawful. Assumes nothing.
-use mathlib.Core.Path.{_≡_, refl, sym, ap, _∙_, subst}
+use mathlib.Core.Path.{_≡_, sym, ap, subst}
 use mathlib.Core.Logic.{_≢_, _⊎_, inl, inr}
-use Prim.Native.Nat.{ℕ, zero, suc, _+_, _-_, _*_, _/_, _%_, _≤_, _<_}
+use Prim.Native.Nat.{ℕ, zero, _+_, _-_, _*_, _/_, _%_, _≤_, _<_}
 use native.Mathlib.Omega.{arith}
 use native.Mathlib.Decide.{decLt}
 use mathlib.Core.Bool.{Bool, true, false, _&&_, _||_}
-use mathlib.Core.List.{List, [], _∷_}
+use mathlib.Core.List.{List}
 use lib.ListN.{getD, set, length, replicate, getD-replicate, List·getD-eq-default}
 use lib.Seq.{getD-set-same, getD-set-other, set-out}
 use lib.Dec.{T, leb, ltb, eqb, leb→le, nltb→le}
 use borrow.Author.Tests.{eq-eqb, ne-eqb}
 use Rattle.ground.specs.Tests.{by-cond, neqb→ne, same?}
-use Rattle.ground.specs.Tables.{every, at-each, and-left, and-right}
-use Rattle.estimate.specs.Estimate.{rows, rowOf, rise, fall, flip, next, entryOf, indexOf, senseOf, fresh, LawfulEntry, LawfulTable}
+use Rattle.ground.specs.Tables.{at-each, and-left, and-right}
+use Rattle.estimate.specs.Estimate.{rows, rowOf, rise, fall, flip, next, indexOf, senseOf, fresh, LawfulEntry, LawfulTable}
 
 -- ---- the values
 inRange : ℕ → ℕ → Bool
@@ -84,14 +84,6 @@ next-fall e f h k = let l : fall (e / 2) ≤ e / 2 = fall-small (e / 2) in (omeg
 pub fresh-entry : (cx : ℕ) → cx < 128 → (indexOf (getD fresh cx 0) ≡ 0) × (senseOf (getD fresh cx 0) ≡ 0)
 unfolding fresh
 fresh-entry cx h = let e : getD (replicate 128 0) cx 0 ≡ zero = getD-replicate 128 cx 0 0 h in (ap (λ (x : ℕ). x / 2) e, ap (λ (x : ℕ). x % 2) e)
-
-pub fresh-lawful : LawfulTable fresh
-unfolding fresh
-fresh-lawful cx = go (decLt cx 128)
-  where
-    go : Dec (cx < 128) → LawfulEntry (getD (replicate 128 0) cx 0)
-    go (yes h) = rw (getD-replicate {A = ℕ} 128 cx 0 0 h) (omega arith)
-    go (no h) = rw (List·getD-eq-default {A = ℕ} (replicate 128 0) 0 {n = cx} (omega arith)) (omega arith)
 
 -- one entry changed
 pub set-lawful : (t : List ℕ) (cx e : ℕ) → LawfulTable t → LawfulEntry e → LawfulTable (set t cx e)

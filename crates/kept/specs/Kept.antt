@@ -8,7 +8,8 @@ use mathlib.Core.Option.{Option, some, none}
 use Prim.Native.Nat.{ℕ, zero, suc}
 use Rattle.turns.specs.Office.{Cell}
 use Rattle.estimate.specs.declared.Table.{Table}
-use Rattle.band.specs.Band.{white, written, IsBand, Right}
+use Rattle.band.specs.Band.{white, Right}
+use Rattle.band.specs.One.{OneBand, one-right}
 use Rattle.desk.specs.declared.Key.{Key}
 use Rattle.desk.specs.declared.Opening.{Opening}
 use Rattle.desk.specs.declared.Ask.{Ask}
@@ -170,16 +171,6 @@ read-refused (some band) d ask code out = refused-by (refusal (readTests d ask c
 read-refused none d ask code out = refused-by (refusal (readTests d ask code out)) d (refused 10 d) (λ r. refl)
 
 -- ---- a read has one outcome, where two bands of one size are never written as the same code from one table and last row
-abbrev pub OneBand : ℕ → ℕ → List ℕ → List ℕ → Type 0
-OneBand width rows table last =
-    (a b : List ℕ) → IsBand width rows a → IsBand width rows b → written width rows table last a .code ≡ written width rows table last b .code → a ≡ b
-
-right-unique : (width rows : ℕ) (table last code : List ℕ) → OneBand width rows table last → (f g : Option (List ℕ)) → Right width rows table last code f → Right width rows table last code g → f ≡ g
-right-unique w r t l code u (some a) (some b) p q = ap some (u a b (p .0) (q .0) (p .1 ∙ sym (q .1)))
-right-unique w r t l code u (some a) none p q = absurd (q a (p .0) (p .1))
-right-unique w r t l code u none (some b) p q = absurd (p b (q .0) (q .1))
-right-unique w r t l code u none none p q = refl
-
 module _ (d : Desk) (ask : Ask) (code out : List ℕ)
     (one : OneBand (pageAt d (pageFound d (ask .key)) .width) (ask .rows) (pageAt d (pageFound d (ask .key)) .table .entries) (pageAt d (pageFound d (ask .key)) .last)) where
   refused-alike : (f g : Option (List ℕ)) (n : ℕ) → refusal (readTests d ask code out) ≡ suc n → (readSpec f d ask code out ≡ readSpec g d ask code out) × (readLent f d ask code out ≡ readLent g d ask code out)
@@ -194,6 +185,6 @@ module _ (d : Desk) (ask : Ask) (code out : List ℕ)
     where
       go : (n : ℕ) → refusal (readTests d ask code out) ≡ n → (readSpec (p .found) d ask code out ≡ readSpec (q .found) d ask code out) × (readLent (p .found) d ask code out ≡ readLent (q .found) d ask code out)
       go zero e =
-          let f : p .found ≡ q .found = right-unique _ _ _ _ code one (p .found) (q .found) (p .right e) (q .right e) in
+          let f : p .found ≡ q .found = one-right _ _ _ _ code one (p .found) (q .found) (p .right e) (q .right e) in
           (ap (λ (o : Option (List ℕ)). readSpec o d ask code out) f, ap (λ (o : Option (List ℕ)). readLent o d ask code out) f)
       go (suc n) e = refused-alike (p .found) (q .found) n e

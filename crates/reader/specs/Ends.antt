@@ -1,26 +1,25 @@
 -- A band read to its end: it is right, or no band was written so. Assumes nothing.
 use mathlib.Core.Path.{_≡_, refl, sym, ap, ap₂, _∙_, subst}
-use Prim.Native.Nat.{ℕ, zero, suc, _+_, _-_, _*_, _≤_, _<_}
+use Prim.Native.Nat.{ℕ, _+_, _-_, _*_, _≤_, _<_}
 use native.Mathlib.Nat.{zero-add, add-zero}
 use native.Mathlib.Omega.{arith}
-use mathlib.Core.Bool.{Bool, true, false, cond, _&&_}
-use mathlib.Core.Option.{Option, some, none}
-use mathlib.Core.List.{List, [], _∷_, _++_, append-nil}
-use lib.ListN.{getD, length, drop, replicate, length-append}
+use mathlib.Core.Bool.{Bool, true, false, _&&_}
+use mathlib.Core.Option.{some, none}
+use mathlib.Core.List.{List, [], _++_, append-nil}
+use lib.ListN.{length, drop, replicate, length-append}
 use lib.Dec.{eqb}
 use borrow.Author.Tests.{le-leb, lt-leb}
 use Rattle.coder.specs.Writing.{Stage}
 use Rattle.coder.specs.Reading.{readPels}
-use Rattle.octets.specs.Octets.{Registers, finish, bytes, code}
+use Rattle.octets.specs.Octets.{finish, bytes, code}
 use Rattle.octets.specs.Lift.{lift}
 use Rattle.estimate.specs.declared.Table.{Table}
 use Rattle.exact.specs.Reader.{opened}
 use Rattle.store.specs.Store.{inFront, cleared}
 use Rattle.template.specs.Pels.{rowBytes, bandTo}
-use Rattle.band.specs.Band.{qWriter, qPage, pageAt, written, lastRow, IsBand, Right}
+use Rattle.band.specs.Band.{qWriter, qPage, pageAt, written, lastRow}
 use Rattle.band.specs.Bands.{finish-behind}
 use Rattle.reader.specs.declared.Reading.{Reading}
-use Rattle.reader.specs.declared.Read.{Read}
 use Rattle.reader.specs.QCoder.{qReader}
 use Rattle.reader.specs.ReadRow.{matches, matches-append, reads}
 use Rattle.reader.specs.Reads.{BandRead}

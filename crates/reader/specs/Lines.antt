@@ -1,11 +1,9 @@
 -- A row that was read, whole. Assumes nothing.
-use mathlib.Core.Path.{_≡_, refl, sym, ap, ap₂, _∙_, subst}
-use Prim.Native.Nat.{ℕ, zero, suc, _+_, _-_, _*_, _^_, _≤_, _<_}
-use native.Mathlib.Omega.{arith}
-use mathlib.Core.Bool.{Bool, _&&_}
+use mathlib.Core.Path.{_≡_, sym, ap, _∙_, subst}
+use Prim.Native.Nat.{ℕ, _+_, _*_, _^_, _≤_, _<_}
+use mathlib.Core.Bool.{_&&_}
 use mathlib.Core.List.{List, [], _++_}
 use lib.ListN.{length}
-use Rattle.coder.specs.Writing.{Stage}
 use Rattle.coder.specs.Page.{Page}
 use Rattle.estimate.specs.Estimate.{LawfulTable}
 use Rattle.octets.specs.Fit.{Ready}
@@ -14,12 +12,11 @@ use Rattle.template.specs.Pels.{pelsTo}
 use Rattle.template.specs.declared.Window.{Window}
 use Rattle.template.specs.Window.{length-pels}
 use Rattle.template.specs.Packing.{Row}
-use Rattle.band.specs.Band.{qWriter, qPage}
 use Rattle.band.specs.Rows.{stageOf, pageOf, through, page-within, page-full}
 use Rattle.reader.specs.declared.Reading.{Reading}
 use Rattle.reader.specs.declared.Line.{Line}
 use Rattle.reader.specs.Views.{sightOf}
-use Rattle.reader.specs.ReadRow.{matches, reads, begun, RowRead}
+use Rattle.reader.specs.ReadRow.{matches, reads, RowRead}
 
 module _ (width : ℕ) (above code : List ℕ) (s : Reading) where
   abbrev under : Page

@@ -1,6 +1,6 @@
 -- The Q-coder is a coder: on a written code its reader decides each pel as it was written. Assumes nothing.
 use mathlib.Core.Path.{_≡_, refl, sym, ap, _∙_, subst, subst₂}
-use Prim.Native.Nat.{ℕ, _+_, _-_, _*_, _^_, _≤_, _<_}
+use Prim.Native.Nat.{ℕ, _-_, _*_, _^_, _≤_, _<_}
 use native.Mathlib.Omega.{arith}
 use mathlib.Core.Bool.{Bool, true, false}
 use mathlib.Core.List.{List, [], _∷_, _++_}
@@ -10,7 +10,7 @@ use Rattle.coder.specs.Reading.{Reader, Coder}
 use Rattle.estimate.specs.Laws.{Sized}
 use Rattle.interval.specs.Interval.{Decision, decision}
 use Rattle.octets.specs.Octets.{Registers, start, part, pel, run, finish, bytes, code}
-use Rattle.octets.specs.Fit.{upper, lower, Ready, AllSized, ready-run, ready-start, rest-part, ready-pel}
+use Rattle.octets.specs.Fit.{upper, lower, Ready, AllSized, ready-run, ready-start, rest-part}
 use Rattle.octets.specs.Fit.{Sized as Coded}
 use Rattle.exact.specs.Value.{places}
 use Rattle.exact.specs.Ahead.{Ahead, Going, going-part, going-end, going-shifts}

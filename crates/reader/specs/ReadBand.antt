@@ -1,18 +1,15 @@
 -- A band as the reader meets it, row after row. Assumes nothing.
-use mathlib.Core.Path.{_≡_, refl, sym, ap, ap₂, _∙_, subst, subst₂}
+use mathlib.Core.Path.{_≡_, refl, sym, ap, ap₂, _∙_}
 use Prim.Native.Nat.{ℕ, zero, suc, _+_, _-_, _*_, _/_, _%_, _^_, _≤_, _<_}
-use native.Mathlib.Nat.{zero-add, zero-mul, suc-mul, add-assoc, mul-le-mul-right}
+use native.Mathlib.Nat.{suc-mul, mul-le-mul-right}
 use native.Mathlib.Decide.{decLt}
 use native.Mathlib.Omega.{arith}
-use mathlib.Core.Bool.{Bool, true, false, _&&_}
-use mathlib.Core.List.{List, [], _∷_, _++_, append-assoc}
-use lib.ListN.{getD, length, take, drop, replicate, length-append, length-drop, length-take, length-replicate, getD-replicate, List·getD-append, List·getD-eq-default, take-append-drop}
-use lib.Seq.{paste, take-at, drop-at, drop-append-le, take-append-le, drop-append-add, drop-drop, take-all, length-take-le, getD-take, getD-drop, ext-getD, getD-append-add}
-use lib.Dec.{eqb}
+use mathlib.Core.Bool.{Bool, true, _&&_}
+use mathlib.Core.List.{List, [], _∷_, _++_}
+use lib.ListN.{getD, length, take, drop, replicate, length-drop, length-replicate, getD-replicate, List·getD-eq-default, take-append-drop}
+use lib.Seq.{drop-at, drop-append-le, take-append-le, take-all, length-take-le, getD-take, getD-drop, ext-getD}
 use Rattle.template.specs.Pels.{rowBytes, pelAt, pelsTo, rowAt, bandTo, rowPadded, bandPadded}
-use Rattle.template.specs.Window.{length-pels}
 use Rattle.template.specs.Packing.{Row}
-use Rattle.band.specs.Band.{IsBand, lastRow}
 
 -- ---- rows of a band that grows by one
 module _ (width y : ℕ) (band row : List ℕ) (size : length band ≡ y * rowBytes width) (fits : length row ≡ rowBytes width) where

@@ -4,28 +4,26 @@ use mathlib.Core.Path.{_≡_, refl, sym, ap, ap₂, _∙_, subst}
 use Prim.Native.Nat.{ℕ, zero, suc, _+_, _-_, _*_, _/_, _%_, _^_, _≤_, _<_}
 use native.Mathlib.Nat.{add-suc, suc-add}
 use native.Mathlib.Omega.{arith}
-use mathlib.Core.Bool.{Bool, true, false, cond, _&&_}
+use mathlib.Core.Bool.{Bool, true, false, _&&_}
 use mathlib.Core.List.{List, [], _∷_, _++_, append-assoc}
-use lib.ListN.{getD, set, length, take, drop, replicate, length-append}
+use lib.ListN.{getD, set, length, take, replicate, length-append}
 use lib.Seq.{length-take-le, take-suc}
 use lib.Dec.{ltb, eqb}
-use Rattle.ground.specs.Tests.{if-eq, if-ne}
 use Rattle.coder.specs.Writing.{Stage, step, after, after-append}
 use Rattle.coder.specs.Reading.{readPels, pelOf}
 use Rattle.coder.specs.Page.{Page, contextOf, entryAt, size, sense, move}
 use Rattle.estimate.specs.Estimate.{rowOf, LawfulTable}
 use Rattle.estimate.specs.Laws.{set-lawful}
 use Rattle.octets.specs.declared.Coder.{Coder}
-use Rattle.octets.specs.Octets.{Registers}
 use Rattle.octets.specs.Fit.{Ready}
 use Rattle.octets.specs.Lift.{lift}
-use Rattle.exact.specs.Reader.{Sight, seek, decide, taken}
+use Rattle.exact.specs.Reader.{Sight, seek, taken}
 use Rattle.template.specs.Pels.{pelsTo, context}
 use Rattle.template.specs.declared.Window.{Window}
 use Rattle.template.specs.Window.{Slid, slid-next, slid-small, length-pels, pels-bits}
 use Rattle.template.specs.Packing.{Row, row-next, pels-next, byte-room}
 use Rattle.band.specs.Band.{qScheme, qWriter, qPage}
-use Rattle.band.specs.Rows.{Pelled, bytesOf, stageOf, pageOf, through, page-within, page-full, step-within, few-bytes, pelled-ready, pelled-count, pelled-lawful}
+use Rattle.band.specs.Rows.{Pelled, bytesOf, stageOf, pageOf, through, page-within, step-within, few-bytes, pelled-ready, pelled-count, pelled-lawful}
 use Rattle.interval.specs.Interval.{decision, partOf}
 use Rattle.band.specs.declared.Pel.{Pel}
 use Rattle.reader.specs.declared.View.{View}

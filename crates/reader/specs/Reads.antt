@@ -1,23 +1,22 @@
 -- A band read: what holds after y rows, and a row more. Assumes nothing.
 use mathlib.Core.Path.{_≡_, refl, sym, ap, ap₂, _∙_, subst}
-use Prim.Native.Nat.{ℕ, zero, suc, _+_, _-_, _*_, _^_, _≤_, _<_}
+use Prim.Native.Nat.{ℕ, suc, _+_, _-_, _*_, _^_, _≤_, _<_}
 use native.Mathlib.Nat.{zero-add, zero-mul, suc-mul, add-assoc, mul-le-mul-right}
 use native.Mathlib.Decide.{decLt}
 use native.Mathlib.Omega.{arith}
-use mathlib.Core.Bool.{Bool, true, false, _&&_}
-use mathlib.Core.List.{List, [], _∷_, _++_, append-assoc}
+use mathlib.Core.Bool.{Bool, true, _&&_}
+use mathlib.Core.List.{List, [], _++_, append-assoc}
 use lib.ListN.{getD, length, take, drop, replicate, length-append, List·getD-append}
 use lib.Seq.{paste, take-at, drop-append-add, drop-drop, getD-append-add}
 use Rattle.coder.specs.Writing.{Stage, after, after-append}
 use Rattle.coder.specs.Page.{Page}
 use Rattle.estimate.specs.Estimate.{LawfulTable}
-use Rattle.octets.specs.declared.Coder.{Coder}
 use Rattle.octets.specs.Octets.{Registers, start}
 use Rattle.octets.specs.Fit.{Ready, ready-start}
 use Rattle.octets.specs.Loops.{behind}
 use Rattle.octets.specs.Lift.{lift}
 use Rattle.exact.specs.Reader.{Sight, opened}
-use Rattle.template.specs.Pels.{rowBytes, pelsTo, rowAt, bandTo, bandPadded, rowPadded}
+use Rattle.template.specs.Pels.{rowBytes, pelsTo, rowAt, bandTo, bandPadded}
 use Rattle.band.specs.Band.{IsBand, qWriter, qPage, pageAt}
 use Rattle.band.specs.Rows.{stageOf, through, lift-behind}
 use Rattle.band.specs.Bands.{behind-through}

@@ -1,25 +1,22 @@
 -- Demand 2's theorems on bands as bytes: what is written is read back, no two bands of one size have one code, and so what a read answers is
 -- determined. Assumes nothing.
-use mathlib.Core.Path.{_≡_, refl, sym, ap, ap₂, _∙_, subst}
+use mathlib.Core.Path.{_≡_, refl, sym, ap, ap₂, _∙_}
 use Prim.Native.Nat.{ℕ, zero, suc, _+_, _-_, _*_, _/_, _%_, _^_, _≤_, _<_, min}
-use native.Mathlib.Nat.{suc-mul, zero-mul, mul-le-mul-right, div-one, div-div-eq-div-mul, pow-suc, mod-lt, div-add-mod', div-lt-iff-lt-mul}
+use native.Mathlib.Nat.{suc-mul, mul-le-mul-right, div-one, div-div-eq-div-mul, pow-suc, mod-lt, div-add-mod', div-lt-iff-lt-mul}
 use native.Mathlib.Decide.{decLt}
 use native.Mathlib.Omega.{arith}
-use mathlib.Core.Bool.{Bool, true, false, _&&_}
-use mathlib.Core.Option.{Option, some, none}
+use mathlib.Core.Bool.{true}
+use mathlib.Core.Option.{Option, some}
 use mathlib.Core.List.{List, [], _∷_, _++_}
-use lib.ListN.{getD, length, take, drop, length-append, length-take, length-drop, List·getD-eq-default}
-use lib.Seq.{ext-getD, getD-take, getD-drop, take-append-seam, drop-append-seam}
-use lib.Dec.{eqb}
+use lib.ListN.{getD, length, drop, length-take, length-drop, List·getD-eq-default}
+use lib.Seq.{ext-getD, getD-take, getD-drop}
 use lib.Pow.{mod-pow-add}
 use borrow.Author.Tests.{eqb-true}
-use Rattle.estimate.specs.declared.Table.{Table}
-use Rattle.store.specs.Store.{cleared}
 use Rattle.template.specs.Pels.{rowBytes, pelAt, pelsTo, rowAt, bandTo, rowPadded, bandPadded}
-use Rattle.template.specs.Window.{length-pels, pels-at}
+use Rattle.template.specs.Window.{pels-at}
+use Rattle.ground.specs.Bools.{both}
 use Rattle.band.specs.Band.{written, IsBand, Right}
-use Rattle.reader.specs.declared.Read.{Read}
-use Rattle.reader.specs.Found.{rowsFit, readAnswer, readOut, BandFound}
+use Rattle.band.specs.One.{one-right}
 use Rattle.reader.specs.Verdict.{band-size, same-pels}
 
 -- ---- a byte is its eight bits
@@ -105,10 +102,6 @@ cut (x ∷ a) b (y ∷ c) d l e =
     let k = cut a b c d (omega arith) (ap (λ (m : List ℕ). drop 1 m) e) in
     (ap₂ (λ (z : ℕ) (m : List ℕ). z ∷ m) (ap (λ (m : List ℕ). getD m 0 0) e) (k .0), k .1)
 
-both : (x y : Bool) → (x && y) ≡ true → (x ≡ true) × (y ≡ true)
-both true y e = (refl, e)
-both false y e = let z : _≡_ {A = ℕ} 0 1 = cc in absurd (omega arith)
-
 module _ (width rows : ℕ) (a b : List ℕ) (some : 1 ≤ width) (ia : IsBand width rows a) (ib : IsBand width rows b) where
   rows-padded : (l : List ℕ) (n y : ℕ) → bandPadded width l n ≡ true → y < n → rowPadded width (rowAt width l y) ≡ true
   unfolding bandPadded
@@ -166,42 +159,9 @@ no-two width rows table last a b h ia ib e = same-band width rows a b h ia ib (s
 
 -- what is right of a code is determined
 pub right-unique : (width rows : ℕ) (table last code : List ℕ) (f g : Option (List ℕ)) → 1 ≤ width → Right width rows table last code f → Right width rows table last code g → f ≡ g
-right-unique width rows table last code (some a) (some b) h p q = ap some (no-two width rows table last a b h (p .0) (q .0) (p .1 ∙ sym (q .1)))
-right-unique width rows table last code (some a) none h p q = absurd (q a (p .0) (p .1))
-right-unique width rows table last code none (some b) h p q = absurd (p b (q .0) (q .1))
-right-unique width rows table last code none none h p q = refl
+right-unique width rows table last code f g h p q = one-right width rows table last code (λ a b. no-two width rows table last a b h) f g p q
 
 -- what is written is read back: of a band's own code nothing else is right
 pub written-right : (width rows : ℕ) (table last band : List ℕ) (f : Option (List ℕ)) → 1 ≤ width → IsBand width rows band
     → Right width rows table last (written width rows table last band .code) f → f ≡ some band
 written-right width rows table last band f h i r = right-unique width rows table last (written width rows table last band .code) f (some band) h r (i, refl)
-
--- without room the code is not looked at
-module _ (width rows : ℕ) (table : Table) (last out : List ℕ) where
-  answers : (f : Option (List ℕ)) → rowsFit width rows out ≡ false → readAnswer f width rows table last out ≡ record { room = false; good = false; length = 0; shifts = 0; table = table; last = last }
-  unfolding readAnswer
-  answers (some b) e = rw e refl
-  answers none e = rw e refl
-
-  outs : (f : Option (List ℕ)) → rowsFit width rows out ≡ false → readOut f width rows out ≡ cleared out
-  unfolding readOut
-  outs (some b) e = rw e refl
-  outs none e = refl
-
--- any two outcomes that reading a band allows are equal
-pub outcome-unique : (width rows : ℕ) (table : Table) (last code out : List ℕ) (r r′ : Read) (after after′ : List ℕ) → 1 ≤ width
-    → BandFound width rows table last code out r after → BandFound width rows table last code out r′ after′ → (r ≡ r′) × (after ≡ after′)
-outcome-unique width rows table last code out r r′ after after′ h p q = go (rowsFit width rows out) refl
-  where
-    by-found : p .found ≡ q .found → (r ≡ r′) × (after ≡ after′)
-    by-found e = (
-      p .answer ∙ ap (λ (f : Option (List ℕ)). readAnswer f width rows table last out) e ∙ sym (q .answer),
-      p .lent ∙ ap (λ (f : Option (List ℕ)). readOut f width rows out) e ∙ sym (q .lent),
-    )
-
-    no-room : (f g : Option (List ℕ)) → rowsFit width rows out ≡ false → (readAnswer f width rows table last out ≡ readAnswer g width rows table last out) × (readOut f width rows out ≡ readOut g width rows out)
-    no-room f g e = (answers width rows table last out f e ∙ sym (answers width rows table last out g e), outs width rows table last out f e ∙ sym (outs width rows table last out g e))
-
-    go : (b : Bool) → rowsFit width rows out ≡ b → (r ≡ r′) × (after ≡ after′)
-    go true e = by-found (right-unique width rows (table .entries) last code (p .found) (q .found) h (p .right e) (q .right e))
-    go false e = let k = no-room (p .found) (q .found) e in (p .answer ∙ k .0 ∙ sym (q .answer), p .lent ∙ k .1 ∙ sym (q .lent))

@@ -1,12 +1,11 @@
 -- The comparison tells whether any band was written so. Assumes nothing.
-use mathlib.Core.Path.{_≡_, refl, sym, ap, ap₂, _∙_, subst}
-use mathlib.Core.Logic.{_⊎_, inl, inr}
+use mathlib.Core.Path.{_≡_, refl, sym, ap, ap₂, _∙_}
 use Prim.Native.Nat.{ℕ, zero, suc, _+_, _-_, _*_, _≤_, _<_}
-use native.Mathlib.Nat.{zero-add, zero-mul, suc-mul, add-zero}
+use native.Mathlib.Nat.{zero-mul, suc-mul}
 use native.Mathlib.Omega.{arith}
-use mathlib.Core.Bool.{Bool, true, false, _&&_}
-use mathlib.Core.List.{List, [], _∷_, _++_, append-nil}
-use lib.ListN.{getD, length, drop, length-append, drop-of-length-le, length-drop}
+use mathlib.Core.Bool.{true, _&&_}
+use mathlib.Core.List.{List, [], _∷_, _++_}
+use lib.ListN.{getD, length, drop, length-append, drop-of-length-le}
 use lib.Seq.{drop-cons}
 use lib.Dec.{ltb, eqb}
 use borrow.Author.Tests.{ltb-true, eqb-true, lt-ltb, eq-eqb}
@@ -17,15 +16,12 @@ use Rattle.estimate.specs.Laws.{Sized, row-sized}
 use Rattle.exact.specs.Reader.{opened}
 use Rattle.template.specs.Pels.{pelsTo, pelAt, rowAt, bandTo}
 use Rattle.template.specs.Window.{pel-bit, length-pels}
-use Rattle.band.specs.Band.{qScheme, qWriter, qPage, pageAt, written, IsBand}
+use Rattle.band.specs.Band.{qScheme, qWriter, qPage, pageAt, written}
+use Rattle.ground.specs.Bools.{both}
 use Rattle.reader.specs.QCoder.{qReader, qCoder}
 use Rattle.reader.specs.ReadRow.{matchAt, matches}
 
 -- ---- the bytes that were compared
-both : (a b : Bool) → (a && b) ≡ true → (a ≡ true) × (b ≡ true)
-both true b e = (refl, e)
-both false b e = let z : _≡_ {A = ℕ} 0 1 = cc in absurd (omega arith)
-
 same-from : (code : List ℕ) (n : ℕ) (bs : List ℕ) → matches code (suc n) bs ≡ true → n + length bs ≡ length code → drop n code ≡ bs
 unfolding matches matchAt
 same-from code n [] e l = drop-of-length-le code {i = n} (omega arith)

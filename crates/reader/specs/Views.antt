@@ -1,21 +1,21 @@
 -- What the reader's code sees, as the laws' Sight; and k shifts at once: bytes are read until they reach that far. Assumes nothing.
 use mathlib.Core.Path.{_≡_, refl, sym, ap, ap₂, _∙_, subst}
-use mathlib.Core.Logic.{_≢_, _⊎_, inl, inr}
+use mathlib.Core.Logic.{_≢_}
 use Prim.Native.Nat.{ℕ, zero, suc, _+_, _-_, _*_, _%_, _^_, _≤_, _<_}
 use native.Mathlib.Nat.{mul-one, sub-zero, pow-succ', mul-le-mul}
 use native.Mathlib.Omega.{arith}
-use mathlib.Core.Bool.{Bool, true, false, cond, not}
-use mathlib.Core.List.{List, [], _∷_}
+use mathlib.Core.Bool.{Bool, true, false, cond}
+use mathlib.Core.List.{List, []}
 use lib.ListN.{drop, getD, length}
 use lib.Seq.{getD-drop, drop-drop}
 use lib.Pow.{pow-mono}
 use lib.Dec.{ltb, eqb}
-use Rattle.ground.specs.Tests.{by-cond₂, if-eq, if-ne, same?}
+use Rattle.ground.specs.Tests.{by-cond₂, if-eq, if-ne}
 use Rattle.interval.specs.declared.Interval.{Interval}
-use Rattle.interval.specs.Interval.{Decision, decision, partOf, doubled, grown, turns}
+use Rattle.interval.specs.Interval.{decision, partOf, doubled, grown, turns}
 use Rattle.octets.specs.Octets.{Registers, bits, shifts, due, double, part, pel}
-use Rattle.octets.specs.Fit.{bits-ff, bits-else, due-width}
-use Rattle.exact.specs.Reader.{Sight, opened, more, nearer, supplied, seek, decide, above, under, taken}
+use Rattle.octets.specs.Fit.{bits-few, due-width}
+use Rattle.exact.specs.Reader.{Sight, opened, more, nearer, supplied, seek, decide, taken}
 use Rattle.estimate.specs.Estimate.{rowOf}
 use Rattle.estimate.specs.Laws.{row-sized}
 use Rattle.octets.specs.declared.Coder.{Coder}
@@ -67,15 +67,8 @@ seeks-few (suc k) r h =
     less : (l : ℕ) → l - 1 - k ≡ l - suc k
     less l = omega arith
 
-pub bits-some : (b : ℕ) → (7 ≤ bits b) × (bits b ≤ 8)
-bits-some b = go (same? b 255)
-  where
-    go : (b ≡ 255) ⊎ (b ≢ 255) → (7 ≤ bits b) × (bits b ≤ 8)
-    go (inl e) = omega (arith, bits-ff b e)
-    go (inr e) = omega (arith, bits-else b e)
-
 more-some : (r : Sight) → more r .look ≢ 0
-more-some r e = absurd (omega (arith, bits-some (r .last)))
+more-some r e = absurd (omega (arith, bits-few (r .last)))
 
 -- a byte may be read at once, where the shifts will need it
 pub seeks-more : (k l : ℕ) (r : Sight) → r .look ≡ l → l < k → seeks k r ≡ seeks k (more r)
@@ -120,7 +113,7 @@ same-width q b r w e =
 -- ---- a byte read
 pub power-small : (b n p : ℕ) → n ≡ bits b → p ≡ 2 ^ n → (7 ≤ n) × (n ≤ 8) × (p ≤ 256)
 power-small b n p e f =
-    let k : (7 ≤ bits b) × (bits b ≤ 8) = bits-some b in
+    let k : (7 ≤ bits b) × (bits b ≤ 8) = bits-few b in
     let l : n ≤ 8 = omega arith in
     let m : 2 ^ n ≤ 2 ^ 8 = pow-mono l in
     omega arith

@@ -1,17 +1,17 @@
 // Bands read back: the reader is the writer, told each pel by the code.
 ghost use mathlib.Core.Path.{_≡_};
-ghost use mathlib.Core.Bool.{Bool, _&&_};
+ghost use mathlib.Core.Bool.{_&&_};
 ghost use mathlib.Core.List.{[], _∷_};
 ghost use Prim.Native.Nat.{ℕ, _+_, _-_, _*_, _%_, _≤_, _<_, _^_};
 ghost use lib.Dec.{eqb};
 ghost use lib.ListN.{length, take, drop, getD};
-ghost use Rattle.estimate.specs.Estimate.{rowOf, LawfulEntry, LawfulTable};
+ghost use Rattle.estimate.specs.Estimate.{LawfulEntry, LawfulTable};
 ghost use Rattle.octets.specs.Octets.{bits};
 ghost use Rattle.coder.specs.Reading.{pelOf};
 ghost use Rattle.template.specs.Pels.{rowBytes, pelsTo};
 ghost use Rattle.octets.specs.Fit.{Ready};
 ghost use Rattle.octets.specs.Lift.{lift};
-ghost use Rattle.exact.specs.Reader.{opened, decide, seek, taken};
+ghost use Rattle.exact.specs.Reader.{opened};
 ghost use Rattle.exact.specs.Reader as law;
 ghost use Rattle.reader.specs.Views.{sightOf, seeks, ReadPel};
 ghost use Rattle.reader.specs.ReadRow.{matchAt, matches};

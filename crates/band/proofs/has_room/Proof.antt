@@ -1,9 +1,6 @@
-use mathlib.Core.Path.{refl}
 use borrow.Author.Tests.{le-leb, lt-leb}
 use Rattle.band.proofs.has_room.Statement.{statement}
 use Rattle.band.proofs.has_room.Tie as tie
-use Rattle.band.proofs.has_room.Reads as reads
-use Rattle.band.proofs.has_room.Lts as lts
 
 -- src/lib.rt:148:1
 returns : tie.Need-returns

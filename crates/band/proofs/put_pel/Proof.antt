@@ -1,16 +1,9 @@
 -- One pel in its context. Assumes nothing.
-use mathlib.Core.Path.{_≡_, refl}
-use native.Mathlib.Omega.{arith}
 use borrow.Author.Needs.{needs}
 use Rattle.estimate.specs.Laws.{row-sized}
-use Rattle.band.specs.Rows.{Pelled, pelled-still, pelled-moved}
+use Rattle.band.specs.Rows.{pelled-still, pelled-moved}
 use Rattle.band.proofs.put_pel.Statement.{statement}
 use Rattle.band.proofs.put_pel.Tie as tie
-use Rattle.band.proofs.put_pel.Reads as reads
-use Rattle.band.proofs.put_pel.Lts as lts
-use Rattle.estimate.proofs.next_entry.Reads as next-entry-reads
-use Rattle.estimate.proofs.row_of.Reads as row-of-reads
-use Rattle.octets.proofs.Coder.pel.Reads as pel-reads
 
 -- src/lib.rt:38:23
 row-of-requires : tie.Need-row-of-requires
@@ -36,7 +29,8 @@ returns-2 : tie.Need-returns-2
 returns-2 c =
     let a = c .before .before .before .before .before .before .args in
     let v = rw (c .before .before .before .before .before .row-of .ensures) at (c .before .before .before .before .pel .ensures) in
-    pelled-moved (a .coder) (a .e) (a .expected) (c .before .before .before .before .pel .result) (v .0) (v .1) (v .2) (c .before .if1 .left) _ (c .next-entry .ensures)
+    pelled-moved (a .coder) (a .e) (a .expected) (c .before .before .before .before .pel .result) (v .0) (v .1) (v .2) (c .before .if1 .left) _
+    (c .next-entry .ensures)
 
 pub put-pel-spec : {M : Type 1} → statement M
 put-pel-spec =

@@ -1,21 +1,13 @@
 -- A band is written as defined, or there is no room. Assumes nothing.
-use mathlib.Core.Path.{_≡_, refl, sym, ap, _∙_}
+use mathlib.Core.Path.{_≡_, sym, ap, _∙_}
 use Prim.Native.Nat.{_+_}
 use native.Mathlib.Omega.{arith}
 use borrow.Author.Needs.{needs}
 use lib.ListN.{length, take}
 use lib.Seq.{length-take-le}
-use Rattle.band.specs.Bands.{with-room, without-room, end-same}
+use Rattle.band.specs.Bands.{with-room, without-room}
 use Rattle.band.proofs.write_band.Statement.{statement}
 use Rattle.band.proofs.write_band.Tie as tie
-use Rattle.band.proofs.write_band.Reads as reads
-use Rattle.band.proofs.write_band.Lts as lts
-use Rattle.band.proofs.has_room.Reads as has-room-reads
-use Rattle.band.proofs.last_row.Reads as last-row-reads
-use Rattle.band.proofs.write_rows.Reads as write-rows-reads
-use Rattle.octets.proofs.Coder.finish.Reads as finish-reads
-use Rattle.store.proofs.clear.Reads as clear-reads
-use Rattle.store.proofs.put_last.Reads as put-last-reads
 
 -- src/lib.rt:160:9
 write-rows-requires : tie.Need-write-rows-requires
@@ -55,7 +47,8 @@ returns c =
     let n : length (f .result .bytes) ≡ 5 = search needs in
     let k : p .result ≡ w .result .at + length (take (f .result .count) (f .result .bytes))
     = p .ensures .0 ∙ ap (λ m. w .result .at + m) (sym (length-take-le (f .result .count) (f .result .bytes) (omega (arith, f .ensures .2)))) in
-    with-room (a .width) (a .rows) (a .last) (a .pels .now) (a .table .entries) (a .out .now) _ _ _ _ _ (w .ensures) _ (f .ensures .0) _ (p .result) (p .ensures .1) k
+    with-room (a .width) (a .rows) (a .last) (a .pels .now) (a .table .entries) (a .out .now) _ _ _ _ _ (w .ensures) _ (f .ensures .0) _ (p .result)
+    (p .ensures .1) k
     (sym (c .before .before .before .has-room .ensures) ∙ c .before .before .if1 .taken) (a .table) _ (c .last-row .ensures)
 
 -- src/lib.rt:171:5
@@ -69,14 +62,16 @@ same-length-2 c = search needs
 -- src/lib.rt:155:1
 returns-2 : tie.Need-returns-2
 returns-2 c =
-    let a = c .before .before .before .before .before .before .before .before .before .before .before .before .before .before .before .before .before .before .before .args in
+    let a = c .before .before .before .before .before .before .before .before .before .before .before .before .before .before .before .before .before .before .before .args
+    in
     let w = c .before .before .before .before .before .before .before .before .before .before .before .before .before .before .before .write-rows in
     let f = c .before .before .before .before .before .before .before .before .before .before .before .finish in
     let p = c .before .before .before .before .before .before .before .before .put-last in
     let n : length (f .result .bytes) ≡ 5 = search needs in
     let k : p .result ≡ w .result .at + length (take (f .result .count) (f .result .bytes))
     = p .ensures .0 ∙ ap (λ m. w .result .at + m) (sym (length-take-le (f .result .count) (f .result .bytes) (omega (arith, f .ensures .2)))) in
-    let z = without-room (a .width) (a .rows) (a .last) (a .pels .now) (a .table .entries) (a .out .now) _ _ _ _ _ (w .ensures) _ (f .ensures .0) _ (p .result) (p .ensures .1) k
+    let z = without-room (a .width) (a .rows) (a .last) (a .pels .now) (a .table .entries) (a .out .now) _ _ _ _ _ (w .ensures) _ (f .ensures .0) _
+    (p .result) (p .ensures .1) k
     (sym (c .before .before .before .before .before .has-room .ensures) ∙ c .before .before .before .before .if1 .left) (a .table) in
     (z .0, c .before .before .clear .ensures ∙ z .1)
 

@@ -1,22 +1,15 @@
 -- The rows of a band, one after the other: the loop's invariant is that the rows after the first keep `BandAt`. Assumes nothing.
-use mathlib.Core.Path.{_≡_, refl, sym, ap, _∙_, subst}
-use Prim.Native.Nat.{ℕ, suc, _+_, _-_, _*_, _≤_, _<_}
+use mathlib.Core.Path.{_≡_, refl, sym, _∙_, subst}
+use Prim.Native.Nat.{_-_, _≤_}
 use native.Mathlib.Omega.{arith}
-use mathlib.Core.List.{[]}
 use borrow.Author.Needs.{needs}
 use lib.ListN.{length}
 use lib.Seq.{length-take-le}
 use Rattle.template.specs.Pels.{rowAt, rowBytes}
 use Rattle.octets.specs.Fit.{Ready, ready-start}
-use Rattle.band.specs.Bands.{BandAt, RowsKeep, band-first, start-count, keep-next, rows-fit, part-wide, band-length}
+use Rattle.band.specs.Bands.{BandAt, RowsKeep, band-first, start-count, keep-next, rows-fit, band-length}
 use Rattle.band.proofs.write_rows.Statement.{statement}
 use Rattle.band.proofs.write_rows.Tie as tie
-use Rattle.band.proofs.write_rows.Reads as reads
-use Rattle.band.proofs.write_rows.Lts as lts
-use Rattle.band.proofs.write_next.Reads as write-next-reads
-use Rattle.band.proofs.write_row.Reads as write-row-reads
-use Rattle.octets.proofs.Coder.start.Reads as start-reads
-use Rattle.template.proofs.row_bytes.Reads as row-bytes-reads
 
 abbrev Inv-loop : tie.InvT-loop
 Inv-loop pels width rows out₀ bytes run₀ y₀ out run y =
@@ -27,12 +20,21 @@ abbrev μ-loop : tie.MeasureT-loop
 
 -- the first row
 begun : (c : tie.After-write-row Inv-loop μ-loop)
-    → BandAt (c .before .before .before .before .before .before .before .before .args .width) (c .before .before .before .before .before .before .before .before .args .t2) (c .before .before .before .before .before .before .before .before .args .pels .now) (c .before .before .before .before .before .before .before .before .args .table .entries) (c .before .before .before .before .before .before .before .before .args .out .now) (rowAt (c .before .before .before .before .before .before .before .before .args .width) (c .before .before .before .before .before .before .before .before .args .pels .now) 0) (c .write-row .result .table .entries)
+    → BandAt (c .before .before .before .before .before .before .before .before .args .width)
+    (c .before .before .before .before .before .before .before .before .args .t2)
+    (c .before .before .before .before .before .before .before .before .args .pels .now)
+    (c .before .before .before .before .before .before .before .before .args .table .entries)
+    (c .before .before .before .before .before .before .before .before .args .out .now) (rowAt
+    (c .before .before .before .before .before .before .before .before .args .width)
+    (c .before .before .before .before .before .before .before .before .args .pels .now) 0) (c .write-row .result .table .entries)
     (c .write-row .result .coder) (c .write-row .last .1 .1 .1 .1 .0) (c .write-row .result .at) 1
 begun c =
     let a = c .before .before .before .before .before .before .before .before .args in
-    band-first (a .width) (a .t2) (a .pels .now) (a .table .entries) (a .out .now) (c .before .before .before .before .before .row-bytes .result) (c .before .before .before .before .start .result) _ _ _ _
-    (c .before .before .before .before .before .row-bytes .ensures) (c .before .before .before .before .before .before .before .before .pre .0) (c .before .before .before .before .before .before .before .before .pre .1) (c .before .before .before .before .start .ensures) (c .before .before .before .before .before .before .before .before .pre .5) (c .write-row .ensures)
+    band-first (a .width) (a .t2) (a .pels .now) (a .table .entries) (a .out .now) (c .before .before .before .before .before .row-bytes .result)
+    (c .before .before .before .before .start .result) _ _ _ _
+    (c .before .before .before .before .before .row-bytes .ensures) (c .before .before .before .before .before .before .before .before .pre .0)
+    (c .before .before .before .before .before .before .before .before .pre .1) (c .before .before .before .before .start .ensures)
+    (c .before .before .before .before .before .before .before .before .pre .5) (c .write-row .ensures)
 
 -- src/lib.rt:113:9
 row-bytes-requires : tie.Need-row-bytes-requires Inv-loop μ-loop
@@ -44,7 +46,11 @@ start-requires c κs = tt
 
 -- src/lib.rt:116:29
 slice-aggregate-write-row : tie.Need-slice-aggregate-write-row Inv-loop μ-loop
-slice-aggregate-write-row c = let a = c .before .before .before .before .before .args in let z = rows-fit (a .width) (a .pels .now) (rowBytes (a .width)) refl (a .rows) 0 (omega arith) (c .before .before .before .before .before .pre .3) (c .before .before .before .before .before .pre .1) (c .before .before .before .before .before .pre .4) in sym (length-take-le _ _ (omega (arith, c .before .before .row-bytes .ensures, z .0)))
+slice-aggregate-write-row c =
+    let a = c .before .before .before .before .before .args in
+    let z = rows-fit (a .width) (a .pels .now) (rowBytes (a .width)) refl (a .rows) 0
+    (omega arith) (c .before .before .before .before .before .pre .3) (c .before .before .before .before .before .pre .1)
+    (c .before .before .before .before .before .pre .4) in sym (length-take-le _ _ (omega (arith, c .before .before .row-bytes .ensures, z .0)))
 
 -- src/lib.rt:116:45
 slice-aggregate-write-row-2 : tie.Need-slice-aggregate-write-row-2 Inv-loop μ-loop
@@ -53,7 +59,10 @@ slice-aggregate-write-row-2 c = search needs
 -- src/lib.rt:116:9
 write-row-requires : tie.Need-write-row-requires Inv-loop μ-loop
 write-row-requires c κs =
-    let a = c .before .before .before .before .before .before .before .args in let z = rows-fit (a .width) (a .pels .now) (rowBytes (a .width)) refl (a .rows) 0 (omega arith) (c .before .before .before .before .before .before .before .pre .3) (c .before .before .before .before .before .before .before .pre .1) (c .before .before .before .before .before .before .before .pre .4) in
+    let a = c .before .before .before .before .before .before .before .args in
+    let z = rows-fit (a .width) (a .pels .now) (rowBytes (a .width)) refl
+    (a .rows) 0 (omega arith) (c .before .before .before .before .before .before .before .pre .3)
+    (c .before .before .before .before .before .before .before .pre .1) (c .before .before .before .before .before .before .before .pre .4) in
     let n : length (a .t2) ≡ 256 = search needs in (
       c .before .before .before .before .before .before .before .pre .1,
       rw (length-take-le (c .before .before .before .before .row-bytes .result) (a .pels .now) (omega (arith, c .before .before .before .before .row-bytes .ensures, z .0))) (omega (arith, c .before .before .before .before .row-bytes .ensures)),
@@ -72,13 +81,31 @@ loop-holds c = (omega arith, c .before .before .before .before .before .before .
 -- src/lib.rt:119:9
 write-next-requires : tie.Need-write-next-requires Inv-loop μ-loop
 write-next-requires c κs =
-    let a = c .before .before .before .before .before .before .before .before .before .before .before .before .before .args in let l = c .before .before .loop in let q = c .before .before .before .before .before .before .before .before .before .before .before .before .before .pre in let b = l .inv .3 (a .t2) (a .table .entries) (a .out .now) (begun (c .before .before .before .before .before)) in
-    let z = rows-fit (a .width) (a .pels .now) (rowBytes (a .width)) refl (a .rows) (l .y) (c .before .loop-test .taken) (q .3) (q .1) (q .4) in
-    (q .0, q .1, l .inv .0, omega (arith, c .before .loop-test .taken, q .3), z .0, b .lawful, b .ready, omega (arith, b .count, q .3, l .inv .1), omega (arith, b .place, b .few, q .3, l .inv .1))
+    let a = c .before .before .before .before .before .before .before .before .before .before .before .before .before .args in
+    let l = c .before .before .loop in
+    let q = c .before .before .before .before .before .before .before .before .before .before .before .before .before .pre
+    in
+    let b = l .inv .3 (a .t2) (a .table .entries) (a .out .now) (begun (c .before .before .before .before .before)) in
+    let z = rows-fit (a .width) (a .pels .now) (rowBytes (a .width)) refl (a .rows) (l .y) (c .before .loop-test .taken) (q .3) (q .1) (q .4) in (
+      q .0,
+      q .1,
+      l .inv .0,
+      omega (arith, c .before .loop-test .taken, q .3),
+      z .0,
+      b .lawful,
+      b .ready,
+      omega (arith, b .count, q .3, l .inv .1),
+      omega (arith, b .place, b .few, q .3, l .inv .1),
+    )
 
 -- src/lib.rt:120:9
 add-y : tie.Need-add-y Inv-loop μ-loop
-add-y c = omega (arith, c .before .before .before .before .loop-test .taken, c .before .before .before .before .before .before .before .before .before .before .before .before .before .before .before .before .pre .3)
+add-y c =
+    omega (
+      arith,
+      c .before .before .before .before .loop-test .taken,
+      c .before .before .before .before .before .before .before .before .before .before .before .before .before .before .before .before .pre .3,
+    )
 
 -- src/lib.rt:118:5
 loop-less : tie.Need-loop-less Inv-loop μ-loop
@@ -98,12 +125,21 @@ loop-again c =
 
 -- src/lib.rt:109:1
 same-length : tie.Need-same-length Inv-loop μ-loop
-same-length c = let a = c .before .before .before .before .before .before .before .before .before .before .before .before .args in let l = c .before .loop in let q = c .before .before .before .before .before .before .before .before .before .before .before .before .pre in let b = l .inv .3 (a .t2) (a .table .entries) (a .out .now) (begun (c .before .before .before .before)) in band-length _ _ _ _ _ _ _ _ _ _ _ b
+same-length c =
+    let a = c .before .before .before .before .before .before .before .before .before .before .before .before .args in
+    let l = c .before .loop in
+    let q = c .before .before .before .before .before .before .before .before .before .before .before .before .pre in
+    let b = l .inv .3 (a .t2)
+    (a .table .entries) (a .out .now) (begun (c .before .before .before .before)) in band-length _ _ _ _ _ _ _ _ _ _ _ b
 
 -- src/lib.rt:109:1
 returns : tie.Need-returns Inv-loop μ-loop
 returns c =
-    let a = c .before .before .before .before .before .before .before .before .before .before .before .before .args in let l = c .before .loop in let q = c .before .before .before .before .before .before .before .before .before .before .before .before .pre in let b = l .inv .3 (a .t2) (a .table .entries) (a .out .now) (begun (c .before .before .before .before)) in
+    let a = c .before .before .before .before .before .before .before .before .before .before .before .before .args in
+    let l = c .before .loop in
+    let q = c .before .before .before .before .before .before .before .before .before .before .before .before .pre in
+    let b = l .inv .3 (a .t2)
+    (a .table .entries) (a .out .now) (begun (c .before .before .before .before)) in
     let e : l .y ≡ a .rows = omega (arith, l .inv .1, c .loop-test .left) in
     rw e at b
 

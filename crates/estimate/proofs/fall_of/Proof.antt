@@ -26,7 +26,14 @@ returns-5 : tie.Need-returns-5
 unfolding fall
 returns-5 c =
     let i = c .before .before .before .before .args .i in
-    rw (ne-eqb i 0 (λ z. omega arith), le-ltb i 7 (c .before .before .before .if1 .left), ne-eqb i 24 (c .before .before .if2 .left), ne-eqb i 26 (c .before .if3 .left), ne-eqb i 28 (c .if4 .left)) refl
+    rw (
+      ne-eqb i 0 (λ z. omega arith),
+      le-ltb i 7 (c .before .before .before .if1 .left),
+      ne-eqb i 24 (c .before .before .if2 .left),
+      ne-eqb i 26
+          (c .before .if3 .left),
+      ne-eqb i 28 (c .if4 .left),
+    ) refl
 
 pub fall-of-spec : {M : Type 1} → statement M
 fall-of-spec = tie.close (tie.spec returns returns-2 returns-3 returns-4 returns-5)

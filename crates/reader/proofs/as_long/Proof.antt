@@ -1,9 +1,6 @@
 -- As many bytes as the code has. Assumes nothing.
-use borrow.Author.Needs.{needs}
 use Rattle.reader.proofs.as_long.Statement.{statement}
 use Rattle.reader.proofs.as_long.Tie as tie
-use Rattle.reader.proofs.as_long.Reads as reads
-use Rattle.reader.proofs.as_long.Lts as lts
 
 -- src/lib.rt:322:1
 returns : tie.Need-returns

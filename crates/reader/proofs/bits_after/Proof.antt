@@ -3,8 +3,6 @@ use mathlib.Core.Path.{sym}
 use Rattle.octets.specs.Fit.{bits-ff, bits-else}
 use Rattle.reader.proofs.bits_after.Statement.{statement}
 use Rattle.reader.proofs.bits_after.Tie as tie
-use Rattle.reader.proofs.bits_after.Reads as reads
-use Rattle.reader.proofs.bits_after.Lts as lts
 
 -- src/lib.rt:62:9
 returns : tie.Need-returns

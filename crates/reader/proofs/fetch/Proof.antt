@@ -3,13 +3,10 @@ use borrow.Author.Needs.{needs}
 use mathlib.Core.Path.{_≡_, refl, sym, ap, _∙_}
 use native.Mathlib.Nat.{add-zero}
 use native.Mathlib.Omega.{arith}
-use lib.ListN.{getD, drop, length, drop-of-length-le}
+use lib.ListN.{getD, drop, drop-of-length-le}
 use lib.Seq.{getD-drop, drop-drop}
 use Rattle.reader.proofs.fetch.Statement.{statement}
 use Rattle.reader.proofs.fetch.Tie as tie
-use Rattle.reader.proofs.fetch.Reads as reads
-use Rattle.reader.proofs.fetch.Lts as lts
-use Rattle.reader.proofs.wide.Reads as wide-reads
 
 -- src/lib.rt:45:22
 shared-slice-read-wide : tie.Need-shared-slice-read-wide

@@ -1,7 +1,7 @@
 -- The last bytes compared with the code. Assumes nothing.
-use mathlib.Core.Path.{_≡_, refl, sym, ap, _∙_}
+use mathlib.Core.Path.{_≡_, sym}
 use mathlib.Core.Bool.{_&&_}
-use Prim.Native.Nat.{_+_, _-_, _≤_}
+use Prim.Native.Nat.{_-_, _≤_}
 use native.Mathlib.Numerals.{add-one}
 use native.Mathlib.Omega.{arith}
 use borrow.Author.Needs.{needs}
@@ -9,9 +9,6 @@ use lib.ListN.{length, take}
 use Rattle.reader.specs.ReadRow.{matches, matches-next, and-true}
 use Rattle.reader.proofs.match_last.Statement.{statement}
 use Rattle.reader.proofs.match_last.Tie as tie
-use Rattle.reader.proofs.match_last.Reads as reads
-use Rattle.reader.proofs.match_last.Lts as lts
-use Rattle.reader.proofs.match_two.Reads as match-two-reads
 
 abbrev Inv-loop : tie.InvT-loop
 Inv-loop code at n good bytes same₀ i₀ same i = (i ≤ n) × (same ≡ (good && matches code at (take i bytes)))

@@ -5,8 +5,6 @@ use borrow.Author.Tests.{lt-ltb, le-ltb}
 use Rattle.reader.specs.ReadRow.{match-first, match-later}
 use Rattle.reader.proofs.match_one.Statement.{statement}
 use Rattle.reader.proofs.match_one.Tie as tie
-use Rattle.reader.proofs.match_one.Reads as reads
-use Rattle.reader.proofs.match_one.Lts as lts
 
 -- src/lib.rt:174:9
 returns : tie.Need-returns

@@ -1,16 +1,12 @@
 use borrow.Author.Needs.{needs}
 -- Two settled bytes compared with the code. Assumes nothing.
-use mathlib.Core.Path.{_≡_, refl, sym, ap, _∙_}
-use mathlib.Core.Bool.{Bool, true, false, _&&_}
+use mathlib.Core.Path.{_≡_, refl, sym, _∙_}
 use native.Mathlib.Numerals.{add-one}
 use native.Mathlib.Omega.{arith}
 use borrow.Author.Tests.{not-true, not-false}
 use Rattle.reader.specs.ReadRow.{matches, and-true}
 use Rattle.reader.proofs.match_two.Statement.{statement}
 use Rattle.reader.proofs.match_two.Tie as tie
-use Rattle.reader.proofs.match_two.Reads as reads
-use Rattle.reader.proofs.match_two.Lts as lts
-use Rattle.reader.proofs.match_one.Reads as match-one-reads
 
 -- src/lib.rt:188:9
 returns : tie.Need-returns
@@ -28,7 +24,9 @@ match-one-requires c κs = search needs
 -- src/lib.rt:195:9
 returns-3 : tie.Need-returns-3
 unfolding matches
-returns-3 c = rw (not-false (c .before .before .before .before .before .args .good) (c .before .before .if2 .left), c .if3 .taken) (c .before .match-one .ensures ∙ sym (and-true _))
+returns-3 c =
+    rw (not-false (c .before .before .before .before .before .args .good) (c .before .before .if2 .left), c .if3 .taken)
+    (c .before .match-one .ensures ∙ sym (and-true _))
 
 -- src/lib.rt:198:32
 add-match-one : tie.Need-add-match-one
@@ -43,14 +41,26 @@ returns-4 : tie.Need-returns-4
 unfolding matches
 returns-4 c =
     let n : c .before .before .before .before .before .before .before .args .n ≡ 2 = omega arith in
-    rw (not-false (c .before .before .before .before .before .before .before .args .good) (c .before .before .before .before .if2 .left), n, ← c .before .before .before .match-one .ensures, c .before .if4 .taken) (c .match-one2 .ensures ∙ rw add-one (sym (and-true _)))
+    rw (
+      not-false (c .before .before .before .before .before .before .before .args .good) (c .before .before .before .before .if2 .left),
+      n,
+      ←
+          c .before .before .before .match-one .ensures,
+      c .before .if4 .taken,
+    ) (c .match-one2 .ensures ∙ rw add-one (sym (and-true _)))
 
 -- src/lib.rt:183:1
 returns-5 : tie.Need-returns-5
 unfolding matches
 returns-5 c =
     let n : c .before .before .before .before .before .before .args .n ≡ 2 = omega arith in
-    rw (not-false (c .before .before .before .before .before .before .args .good) (c .before .before .before .if2 .left), n, ← c .before .before .match-one .ensures, c .if4 .left) refl
+    rw (
+      not-false (c .before .before .before .before .before .before .args .good) (c .before .before .before .if2 .left),
+      n,
+      ←
+          c .before .before .match-one .ensures,
+      c .if4 .left,
+    ) refl
 
 pub match-two-spec : {M : Type 1} → statement M
 match-two-spec =

@@ -1,14 +1,12 @@
 -- A pel at its place in a byte: no bit of it is shifted out. Assumes nothing.
 use mathlib.Core.Path.{_≡_}
-use Prim.Native.Nat.{ℕ, _-_, _*_, _%_, _^_, _≤_}
+use Prim.Native.Nat.{_-_, _*_, _%_, _^_, _≤_}
 use native.Mathlib.Nat.{mul-le-mul}
 use native.Mathlib.Omega.{arith}
 use borrow.Author.Needs.{needs}
 use lib.Pow.{shl-exact, pow-mono}
 use Rattle.reader.proofs.pel_in_byte.Statement.{statement}
 use Rattle.reader.proofs.pel_in_byte.Tie as tie
-use Rattle.reader.proofs.pel_in_byte.Reads as reads
-use Rattle.reader.proofs.pel_in_byte.Lts as lts
 
 sub-result : tie.Need-sub-result
 sub-result c = search needs

@@ -1,11 +1,8 @@
 use borrow.Author.Needs.{needs}
 -- The expected pel, or the other. Assumes nothing.
-use mathlib.Core.Path.{refl}
 use native.Mathlib.Omega.{arith}
 use Rattle.reader.proofs.pel_told.Statement.{statement}
 use Rattle.reader.proofs.pel_told.Tie as tie
-use Rattle.reader.proofs.pel_told.Reads as reads
-use Rattle.reader.proofs.pel_told.Lts as lts
 
 -- src/lib.rt:208:9
 returns : tie.Need-returns

@@ -1,28 +1,16 @@
 -- A band is read where some band was written so, and only there. Assumes nothing.
-use mathlib.Core.Path.{_≡_, refl, sym, ap, _∙_}
-use Prim.Native.Nat.{ℕ, _+_, _-_, _*_, _≤_, _<_}
+use mathlib.Core.Path.{_≡_}
+use Prim.Native.Nat.{_+_, _-_}
 use native.Mathlib.Nat.{mul-le-mul-right}
 use native.Mathlib.Omega.{arith}
 use borrow.Author.Needs.{needs}
-use borrow.Author.Tests.{le-leb, lt-leb}
 use mathlib.Core.Bool.{true, false, _&&_}
-use lib.Dec.{eqb}
 use lib.ListN.{length, take}
 use lib.Seq.{length-take-le}
-use Rattle.template.specs.Pels.{rowBytes}
 use Rattle.reader.specs.ReadRow.{matches}
-use Rattle.reader.specs.Found.{rowsFit, BandFound}
 use Rattle.reader.specs.Ends.{read-done, read-damaged, read-nothing, fits-when, fits-not, as-compared, counted}
 use Rattle.reader.proofs.read_band.Statement.{statement}
 use Rattle.reader.proofs.read_band.Tie as tie
-use Rattle.reader.proofs.read_band.Reads as reads
-use Rattle.reader.proofs.read_band.Lts as lts
-use Rattle.octets.proofs.Coder.finish.Reads as finish-reads
-use Rattle.reader.proofs.as_long.Reads as as-long-reads
-use Rattle.reader.proofs.match_last.Reads as match-last-reads
-use Rattle.reader.proofs.read_rows.Reads as read-rows-reads
-use Rattle.store.proofs.clear.Reads as clear-reads
-use Rattle.template.proofs.row_bytes.Reads as row-bytes-reads
 
 -- src/lib.rt:333:25
 row-bytes-requires : tie.Need-row-bytes-requires
@@ -30,7 +18,13 @@ row-bytes-requires c κs = search needs
 
 -- src/lib.rt:333:18
 mul-length : tie.Need-mul-length
-mul-length c = omega (arith, mul-le-mul-right {m = c .before .before .before .args .rows} {n = 64} (c .row-bytes .result) (c .before .before .before .pre .3), c .row-bytes .ensures, c .before .before .before .pre .1)
+mul-length c =
+    omega (
+      arith,
+      mul-le-mul-right {m = c .before .before .before .args .rows} {n = 64} (c .row-bytes .result) (c .before .before .before .pre .3),
+      c .row-bytes .ensures,
+      c .before .before .before .pre .1,
+    )
 
 -- src/lib.rt:335:9
 clear-requires : tie.Need-clear-requires
@@ -44,11 +38,20 @@ same-length c = search needs
 returns : tie.Need-returns
 returns c =
     let a = c .before .before .before .before .before .before .before .before .args in
-    read-nothing (a .width) (a .rows) (a .table) (a .last) (a .code .now) (a .out .now) _ (fits-not (a .width) (a .rows) (c .before .before .before .before .before .row-bytes .result) (a .out .now) (c .before .before .before .before .before .row-bytes .ensures) (c .before .before .before .before .if1 .taken)) (c .before .before .clear .ensures)
+    read-nothing (a .width) (a .rows) (a .table) (a .last) (a .code .now) (a .out .now) _ (fits-not (a .width) (a .rows)
+    (c .before .before .before .before .before .row-bytes .result) (a .out .now) (c .before .before .before .before .before .row-bytes .ensures)
+    (c .before .before .before .before .if1 .taken)) (c .before .before .clear .ensures)
 
 -- src/lib.rt:338:9
 read-rows-requires : tie.Need-read-rows-requires
-read-rows-requires c κs = let q = c .before .before .before .before .before .pre in (q .0, q .1, q .3, rw (c .before .before .row-bytes .ensures) at (c .before .if1 .left), q .4)
+read-rows-requires c κs =
+    let q = c .before .before .before .before .before .pre in (
+      q .0,
+      q .1,
+      q .3,
+      rw (c .before .before .row-bytes .ensures) at (c .before .if1 .left),
+      q .4,
+    )
 
 -- src/lib.rt:341:9
 finish-requires : tie.Need-finish-requires
@@ -77,15 +80,27 @@ same-length-2 c = search needs
 -- src/lib.rt:347:9
 returns-2 : tie.Need-returns-2
 returns-2 c =
-    let a = c .before .before .before .before .before .before .before .before .before .before .before .before .before .before .before .before .before .before .before .args in
+    let a = c .before .before .before .before .before .before .before .before .before .before .before .before .before .before .before .before .before .before .before .args
+    in
     let d = c .before .before .before .before .before .before .before .before .before .before .before .before .before .read-rows in
     let f = c .before .before .before .before .before .before .before .before .finish in
     let n : length (f .result .bytes) ≡ 5 = search needs in
-    let k : length (take (f .result .count) (f .result .bytes)) ≡ f .result .count = length-take-le (f .result .count) (f .result .bytes) (omega (arith, f .ensures .2)) in
-    let z = fits-when (a .width) (a .rows) (c .before .before .before .before .before .before .before .before .before .before .before .before .before .before .before .before .row-bytes .result) (a .out .now) (c .before .before .before .before .before .before .before .before .before .before .before .before .before .before .before .before .row-bytes .ensures) (c .before .before .before .before .before .before .before .before .before .before .before .before .before .before .before .if1 .left) in
+    let k : length (take (f .result .count) (f .result .bytes)) ≡ f .result .count = length-take-le (f .result .count) (f .result .bytes) (omega
+    (arith, f .ensures .2)) in
+    let z = fits-when (a .width) (a .rows)
+    (c .before .before .before .before .before .before .before .before .before .before .before .before .before .before .before .before .row-bytes .result)
+    (a .out .now)
+    (c .before .before .before .before .before .before .before .before .before .before .before .before .before .before .before .before .row-bytes .ensures)
+    (c .before .before .before .before .before .before .before .before .before .before .before .before .before .before .before .if1 .left) in
     rw (c .before .before .before .before .before .before .before .before .before .before .before .before .before .before .before .before .row-bytes .ensures)
-    (read-done (a .width) (a .rows) (a .table) (a .last) (a .code .now) (a .out .now) (d .result .last) (d .result .reading) _ (d .ensures) (take (f .result .count) (f .result .bytes)) (f .ensures .0) (omega (arith, f .ensures .1)) z
-    (d .result .reading .at + f .result .count) (counted (d .result .reading .at) (f .result .count) _ k) (c .before .before .before .before .before .before .before .before .before .before .before .before .before .before .before .before .before .before .before .pre .2) (as-compared (d .result .reading .good && matches (a .code .now) (d .result .reading .at) (take (f .result .count) (f .result .bytes))) (c .before .before .before .before .before .before .match-last .result) (c .before .before .before .as-long .result) (d .result .reading .at + f .result .count - 1) (length (a .code .now)) true (c .before .before .before .before .before .before .match-last .ensures) (c .before .before .before .as-long .ensures) (c .before .before .if2 .taken)))
+    (read-done (a .width) (a .rows) (a .table) (a .last) (a .code .now) (a .out .now) (d .result .last) (d .result .reading) _ (d .ensures) (take
+    (f .result .count) (f .result .bytes)) (f .ensures .0) (omega (arith, f .ensures .1)) z
+    (d .result .reading .at + f .result .count) (counted (d .result .reading .at) (f .result .count) _ k)
+    (c .before .before .before .before .before .before .before .before .before .before .before .before .before .before .before .before .before .before .before .pre .2)
+    (as-compared (d .result .reading .good && matches (a .code .now) (d .result .reading .at) (take (f .result .count) (f .result .bytes)))
+    (c .before .before .before .before .before .before .match-last .result) (c .before .before .before .as-long .result) (d .result .reading .at +
+    f .result .count - 1) (length (a .code .now)) true (c .before .before .before .before .before .before .match-last .ensures)
+    (c .before .before .before .as-long .ensures) (c .before .before .if2 .taken)))
 
 -- src/lib.rt:349:5
 clear-requires-2 : tie.Need-clear-requires-2
@@ -98,14 +113,29 @@ same-length-3 c = search needs
 -- src/lib.rt:329:1
 returns-3 : tie.Need-returns-3
 returns-3 c =
-    let a = c .before .before .before .before .before .before .before .before .before .before .before .before .before .before .before .before .before .before .before .before .before .args in
+    let a = c .before .before .before .before .before .before .before .before .before .before .before .before .before .before .before .before .before .before .before .before .before .args
+    in
     let d = c .before .before .before .before .before .before .before .before .before .before .before .before .before .before .before .read-rows in
     let f = c .before .before .before .before .before .before .before .before .before .before .finish in
     let n : length (f .result .bytes) ≡ 5 = search needs in
-    let k : length (take (f .result .count) (f .result .bytes)) ≡ f .result .count = length-take-le (f .result .count) (f .result .bytes) (omega (arith, f .ensures .2)) in
-    let z = fits-when (a .width) (a .rows) (c .before .before .before .before .before .before .before .before .before .before .before .before .before .before .before .before .before .before .row-bytes .result) (a .out .now) (c .before .before .before .before .before .before .before .before .before .before .before .before .before .before .before .before .before .before .row-bytes .ensures) (c .before .before .before .before .before .before .before .before .before .before .before .before .before .before .before .before .before .if1 .left) in
-    read-damaged (a .width) (a .rows) (a .table) (a .last) (a .code .now) (a .out .now) (d .result .last) (d .result .reading) _ (d .ensures) (take (f .result .count) (f .result .bytes)) (f .ensures .0) (omega (arith, f .ensures .1)) z
-    (d .result .reading .at + f .result .count) (counted (d .result .reading .at) (f .result .count) _ k) (c .before .before .before .before .before .before .before .before .before .before .before .before .before .before .before .before .before .before .before .before .before .pre .2) (as-compared (d .result .reading .good && matches (a .code .now) (d .result .reading .at) (take (f .result .count) (f .result .bytes))) (c .before .before .before .before .before .before .before .before .match-last .result) (c .before .before .before .before .before .as-long .result) (d .result .reading .at + f .result .count - 1) (length (a .code .now)) false (c .before .before .before .before .before .before .before .before .match-last .ensures) (c .before .before .before .before .before .as-long .ensures) (c .before .before .before .before .if2 .left)) _ (c .before .before .clear2 .ensures) (d .kept .1 .1 .1 .1 .1 .0)
+    let k : length (take (f .result .count) (f .result .bytes)) ≡ f .result .count = length-take-le (f .result .count) (f .result .bytes) (omega
+    (arith, f .ensures .2)) in
+    let z = fits-when (a .width) (a .rows)
+    (c .before .before .before .before .before .before .before .before .before .before .before .before .before .before .before .before .before .before .row-bytes .result)
+    (a .out .now)
+    (c .before .before .before .before .before .before .before .before .before .before .before .before .before .before .before .before .before .before .row-bytes .ensures)
+    (c .before .before .before .before .before .before .before .before .before .before .before .before .before .before .before .before .before .if1 .left)
+    in
+    read-damaged (a .width) (a .rows) (a .table) (a .last) (a .code .now) (a .out .now) (d .result .last) (d .result .reading) _ (d .ensures) (take
+    (f .result .count) (f .result .bytes)) (f .ensures .0) (omega (arith, f .ensures .1)) z
+    (d .result .reading .at + f .result .count) (counted (d .result .reading .at) (f .result .count) _ k)
+    (c .before .before .before .before .before .before .before .before .before .before .before .before .before .before .before .before .before .before .before .before .before .pre .2)
+    (as-compared (d .result .reading .good && matches (a .code .now) (d .result .reading .at) (take (f .result .count) (f .result .bytes)))
+    (c .before .before .before .before .before .before .before .before .match-last .result)
+    (c .before .before .before .before .before .as-long .result) (d .result .reading .at + f .result .count - 1) (length (a .code .now)) false
+    (c .before .before .before .before .before .before .before .before .match-last .ensures)
+    (c .before .before .before .before .before .as-long .ensures) (c .before .before .before .before .if2 .left)) _
+    (c .before .before .clear2 .ensures) (d .kept .1 .1 .1 .1 .1 .0)
 
 pub read-band-spec : {M : Type 1} → statement M
 read-band-spec =

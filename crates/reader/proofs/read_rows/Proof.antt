@@ -1,23 +1,14 @@
 -- The rows of a band, one after the other: the loop's invariant is `BandRead`. Assumes nothing.
-use mathlib.Core.Path.{_≡_, refl, sym, ap, _∙_, subst}
-use Prim.Native.Nat.{ℕ, _+_, _-_, _*_, _≤_, _<_}
+use mathlib.Core.Path.{_≡_, refl, sym, _∙_}
+use Prim.Native.Nat.{_-_, _≤_}
 use native.Mathlib.Nat.{mul-le-mul-right}
 use native.Mathlib.Numerals.{add-one}
 use native.Mathlib.Omega.{arith}
 use borrow.Author.Needs.{needs}
 use lib.ListN.{length}
-use lib.Seq.{length-paste}
-use Rattle.template.specs.Pels.{rowBytes}
 use Rattle.reader.specs.Reads.{BandRead, reads-start, reads-again, next-room}
 use Rattle.reader.proofs.read_rows.Statement.{statement}
 use Rattle.reader.proofs.read_rows.Tie as tie
-use Rattle.reader.proofs.read_rows.Reads as reads
-use Rattle.reader.proofs.read_rows.Lts as lts
-use Rattle.octets.proofs.Coder.start.Reads as Coder-start-reads
-use Rattle.reader.proofs.View.start.Reads as View-start-reads
-use Rattle.reader.proofs.read_row.Reads as read-row-reads
-use Rattle.store.proofs.put_row.Reads as put-row-reads
-use Rattle.template.proofs.row_bytes.Reads as row-bytes-reads
 
 abbrev Inv-loop : tie.InvT-loop
 Inv-loop width rows code out₀ bytes above₀ reading₀ y₀ out above reading y =
@@ -43,8 +34,15 @@ loop-holds : tie.Need-loop-holds Inv-loop μ-loop
 loop-holds c =
     let q = c .before .before .before .before .before .pre in
     let v = c .start2 in
-    let n : length (c .before .before .before .before .before .args .last) ≡ 256 = search needs in
-    (omega arith, refl, n, reads-start (c .before .before .before .before .before .args .width) (c .before .before .before .before .before .args .last) (c .before .before .before .before .before .args .code .now) (c .before .before .before .before .before .args .table .entries) (c .before .before .before .before .before .args .out .now) _ (c .before .start .ensures) refl (q .4) refl refl (v .ensures .0) (v .ensures .1) (v .ensures .2) (v .ensures .3))
+    let n : length (c .before .before .before .before .before .args .last) ≡ 256 = search needs in (
+      omega arith,
+      refl,
+      n,
+      reads-start (c .before .before .before .before .before .args .width)
+          (c .before .before .before .before .before .args .last) (c .before .before .before .before .before .args .code .now)
+          (c .before .before .before .before .before .args .table .entries) (c .before .before .before .before .before .args .out .now) _
+          (c .before .start .ensures) refl (q .4) refl refl (v .ensures .0) (v .ensures .1) (v .ensures .2) (v .ensures .3),
+    )
 
 -- src/lib.rt:297:35
 slice-aggregate-read-row : tie.Need-slice-aggregate-read-row Inv-loop μ-loop
@@ -55,20 +53,72 @@ read-row-requires : tie.Need-read-row-requires Inv-loop μ-loop
 read-row-requires c κs =
     let q = c .before .before .before .before .before .before .before .before .pre in
     let b = c .before .before .loop .inv .3 in
-    let y = c .before .before .loop .inv .0 in
-    (q .1, omega (arith, c .before .before .loop .inv .2, q .1), q .0, b .lawful, b .ready, omega (arith, b .count, y, q .2), omega (arith, b .place, b .few, y, q .2), b .within, b .near, b .small)
+    let y = c .before .before .loop .inv .0 in (
+      q .1,
+      omega (arith, c .before .before .loop .inv .2, q .1),
+      q .0,
+      b .lawful,
+      b .ready,
+      omega (arith, b .count, y, q .2),
+      omega (
+        arith,
+        b .place,
+        b .few,
+        y,
+        q .2,
+      ),
+      b .within,
+      b .near,
+      b .small,
+    )
 
 -- src/lib.rt:300:29
 mul-put-row : tie.Need-mul-put-row Inv-loop μ-loop
-mul-put-row c = let q = c .before .before .before .before .before .before .before .before .before .before .before .before .pre in let m = c .before .before .before .before .before .before .before .before .before .row-bytes in let z = next-room (c .before .before .before .before .before .before .loop .y) (c .before .before .before .before .before .before .before .before .before .before .before .before .args .rows) (m .result) (length (c .before .before .before .before .before .before .before .before .before .before .before .before .args .out .now)) (c .before .before .before .before .before .loop-test .taken) (rw (m .ensures) (q .3)) in omega (arith, mul-le-mul-right {m = c .before .before .before .before .before .before .loop .y} {n = 64} (m .result) (omega (arith, c .before .before .before .before .before .loop-test .taken, q .2)), m .ensures, q .1)
+mul-put-row c =
+    let q = c .before .before .before .before .before .before .before .before .before .before .before .before .pre in
+    let m = c .before .before .before .before .before .before .before .before .before .row-bytes in
+    let z = next-room
+    (c .before .before .before .before .before .before .loop .y)
+    (c .before .before .before .before .before .before .before .before .before .before .before .before .args .rows) (m .result) (length
+    (c .before .before .before .before .before .before .before .before .before .before .before .before .args .out .now))
+    (c .before .before .before .before .before .loop-test .taken) (rw (m .ensures) (q .3)) in omega (
+      arith,
+      mul-le-mul-right {m =
+          c .before .before .before .before .before .before .loop .y} {n = 64} (m .result) (omega (
+            arith,
+            c .before .before .before .before .before .loop-test .taken,
+            q .2,
+          )),
+      m .ensures,
+      q .1,
+    )
 
 -- src/lib.rt:300:9
 put-row-requires : tie.Need-put-row-requires Inv-loop μ-loop
-put-row-requires c κs = let q = c .before .before .before .before .before .before .before .before .before .before .before .before .pre in let m = c .before .before .before .before .before .before .before .before .before .row-bytes in let z = next-room (c .before .before .before .before .before .before .loop .y) (c .before .before .before .before .before .before .before .before .before .before .before .before .args .rows) (m .result) (length (c .before .before .before .before .before .before .before .before .before .before .before .before .args .out .now)) (c .before .before .before .before .before .loop-test .taken) (rw (m .ensures) (q .3)) in (omega (arith, m .ensures, q .1), omega (arith, z, c .before .before .before .before .before .before .loop .inv .1))
+put-row-requires c κs =
+    let q = c .before .before .before .before .before .before .before .before .before .before .before .before .pre in
+    let m = c .before .before .before .before .before .before .before .before .before .row-bytes in
+    let z = next-room
+    (c .before .before .before .before .before .before .loop .y)
+    (c .before .before .before .before .before .before .before .before .before .before .before .before .args .rows) (m .result) (length
+    (c .before .before .before .before .before .before .before .before .before .before .before .before .args .out .now))
+    (c .before .before .before .before .before .loop-test .taken) (rw (m .ensures) (q .3)) in (
+      omega (arith, m .ensures, q .1),
+      omega (
+        arith,
+        z,
+        c .before .before .before .before .before .before .loop .inv .1,
+      ),
+    )
 
 -- src/lib.rt:301:9
 add-y : tie.Need-add-y Inv-loop μ-loop
-add-y c = omega (arith, c .before .before .before .before .before .before .before .before .loop-test .taken, c .before .before .before .before .before .before .before .before .before .before .before .before .before .before .before .pre .2)
+add-y c =
+    omega (
+      arith,
+      c .before .before .before .before .before .before .before .before .loop-test .taken,
+      c .before .before .before .before .before .before .before .before .before .before .before .before .before .before .before .pre .2,
+    )
 
 -- src/lib.rt:296:5
 loop-less : tie.Need-loop-less Inv-loop μ-loop
@@ -77,13 +127,30 @@ loop-less c = omega (arith, c .before .before .before .before .before .before .b
 -- src/lib.rt:296:5
 loop-again : tie.Need-loop-again Inv-loop μ-loop
 loop-again c =
-    let q = c .before .before .before .before .before .before .before .before .before .before .before .before .before .before .before .pre in let m = c .before .before .before .before .before .before .before .before .before .before .before .before .row-bytes in let z = next-room (c .before .before .before .before .before .before .before .before .before .loop .y) (c .before .before .before .before .before .before .before .before .before .before .before .before .before .before .before .args .rows) (m .result) (length (c .before .before .before .before .before .before .before .before .before .before .before .before .before .before .before .args .out .now)) (c .before .before .before .before .before .before .before .before .loop-test .taken) (rw (m .ensures) (q .3)) in
+    let q = c .before .before .before .before .before .before .before .before .before .before .before .before .before .before .before .pre in
+    let m = c .before .before .before .before .before .before .before .before .before .before .before .before .row-bytes in
+    let z = next-room
+    (c .before .before .before .before .before .before .before .before .before .loop .y)
+    (c .before .before .before .before .before .before .before .before .before .before .before .before .before .before .before .args .rows)
+    (m .result) (length
+    (c .before .before .before .before .before .before .before .before .before .before .before .before .before .before .before .args .out .now))
+    (c .before .before .before .before .before .before .before .before .loop-test .taken) (rw (m .ensures) (q .3)) in
     let l = c .before .before .before .before .before .before .before .before .before .loop in
     let d = c .before .before .before .before .before .before .read-row in
     let p = c .before .before .put-row in
-    let b = reads-again (c .before .before .before .before .before .before .before .before .before .before .before .before .before .before .before .args .width) (c .before .before .before .before .before .before .before .before .before .before .before .before .before .before .before .args .last) (c .before .before .before .before .before .before .before .before .before .before .before .before .before .before .before .args .code .now) (c .before .before .before .before .before .before .before .before .before .before .before .before .before .before .before .args .table .entries) (c .before .before .before .before .before .before .before .before .before .before .before .before .before .before .before .args .out .now) (l .above) (l .reading) (l .out) (l .y) (l .inv .3) (q .0) (q .1) (d .result) (d .ensures) _
-    (rw (m .ensures) at (p .ensures)) in
-    (omega (arith, c .before .before .before .before .before .before .before .before .loop-test .taken), p .kept .0 ∙ l .inv .1, d .ensures .packed .size, rw add-one b)
+    let b = reads-again
+    (c .before .before .before .before .before .before .before .before .before .before .before .before .before .before .before .args .width)
+    (c .before .before .before .before .before .before .before .before .before .before .before .before .before .before .before .args .last)
+    (c .before .before .before .before .before .before .before .before .before .before .before .before .before .before .before .args .code .now)
+    (c .before .before .before .before .before .before .before .before .before .before .before .before .before .before .before .args .table .entries)
+    (c .before .before .before .before .before .before .before .before .before .before .before .before .before .before .before .args .out .now)
+    (l .above) (l .reading) (l .out) (l .y) (l .inv .3) (q .0) (q .1) (d .result) (d .ensures) _
+    (rw (m .ensures) at (p .ensures)) in (
+      omega (arith, c .before .before .before .before .before .before .before .before .loop-test .taken),
+      p .kept .0 ∙ l .inv .1,
+      d .ensures .packed .size,
+      rw add-one b,
+    )
 
 -- src/lib.rt:286:1
 same-length : tie.Need-same-length Inv-loop μ-loop
@@ -92,7 +159,11 @@ same-length c = c .before .loop .inv .1
 -- src/lib.rt:286:1
 returns : tie.Need-returns Inv-loop μ-loop
 returns c =
-    let e : c .before .loop .y ≡ c .before .before .before .before .before .before .before .args .rows = omega (arith, c .before .loop .inv .0, c .loop-test .left) in
+    let e : c .before .loop .y ≡ c .before .before .before .before .before .before .before .args .rows = omega (
+      arith,
+      c .before .loop .inv .0,
+      c .loop-test .left,
+    ) in
     rw (← e) (c .before .loop .inv .3)
 
 pub read-rows-spec : {M : Type 1} → statement M

@@ -5,12 +5,10 @@ use native.Mathlib.Omega.{arith}
 use lib.ListN.{length}
 use Rattle.octets.specs.Octets.{bits}
 use Rattle.exact.specs.Reader.{Sight}
-use Rattle.reader.specs.Views.{sightOf, seeks, seeks-few, seeks-more, bits-some}
+use Rattle.reader.specs.Views.{sightOf, seeks, seeks-few, seeks-more}
+use Rattle.octets.specs.Fit.{bits-few}
 use Rattle.reader.proofs.View.advance.Statement.{statement}
 use Rattle.reader.proofs.View.advance.Tie as tie
-use Rattle.reader.proofs.View.advance.Reads as reads
-use Rattle.reader.proofs.View.advance.Lts as lts
-use Rattle.reader.proofs.View.more.Reads as more-reads
 
 abbrev Inv-loop : tie.InvT-loop
 Inv-loop code k v₀ v =
@@ -29,14 +27,17 @@ more-requires c κs = (c .before .before .loop .inv .0, omega (arith, c .if1 .ta
 
 -- src/lib.rt:94:9
 loop-less : tie.Need-loop-less Inv-loop μ-loop
-loop-less c = let l : c .more .result .look ≡ c .before .before .before .loop .v .look + bits (c .before .before .before .loop .v .last) = ap (λ (s : Sight). s .look) (c .more .ensures .0 0) in omega (arith, c .before .if1 .taken, bits-some (c .before .before .before .loop .v .last))
+loop-less c =
+    let l : c .more .result .look ≡ c .before .before .before .loop .v .look + bits (c .before .before .before .loop .v .last) = ap (λ (s : Sight).
+    s .look) (c .more .ensures .0 0) in omega (arith, c .before .if1 .taken, bits-few (c .before .before .before .loop .v .last))
 
 -- src/lib.rt:94:9
 loop-again : tie.Need-loop-again Inv-loop μ-loop
 loop-again c =
-    let l : c .more .result .look ≡ c .before .before .before .loop .v .look + bits (c .before .before .before .loop .v .last) = ap (λ (s : Sight). s .look) (c .more .ensures .0 0) in (
+    let l : c .more .result .look ≡ c .before .before .before .loop .v .look + bits (c .before .before .before .loop .v .last) = ap (λ (s : Sight).
+    s .look) (c .more .ensures .0 0) in (
       c .more .ensures .1,
-      omega (arith, c .before .if1 .taken, bits-some (c .before .before .before .loop .v .last)),
+      omega (arith, c .before .if1 .taken, bits-few (c .before .before .before .loop .v .last)),
       c .more .ensures .2,
       (λ w. ap (seeks (c .before .before .before .before .before .args .k)) (c .more .ensures .0 w) ∙ sym (seeks-more (c .before .before .before .before .before .args .k) _ (sightOf (c .before .before .before .loop .v) w (c .before .before .before .before .before .args .code .now)) refl (c .before .if1 .taken)) ∙ c .before .before .before .loop .inv .3 w),
     )

@@ -5,11 +5,6 @@ use native.Mathlib.Omega.{arith}
 use Rattle.reader.specs.Views.{view-more, power-small, product-small}
 use Rattle.reader.proofs.View.more.Statement.{statement}
 use Rattle.reader.proofs.View.more.Tie as tie
-use Rattle.reader.proofs.View.more.Reads as reads
-use Rattle.reader.proofs.View.more.Lts as lts
-use Rattle.octets.proofs.power.Reads as power-reads
-use Rattle.reader.proofs.bits_after.Reads as bits-after-reads
-use Rattle.reader.proofs.fetch.Reads as fetch-reads
 
 -- src/lib.rt:83:13
 fetch-requires : tie.Need-fetch-requires
@@ -25,15 +20,31 @@ power-requires c κs = omega (arith, power-small _ _ _ (c .bits-after .ensures) 
 
 -- src/lib.rt:85:20
 mul-t6 : tie.Need-mul-t6
-mul-t6 c = let k = power-small _ _ _ (c .before .before .bits-after .ensures) (c .before .power .ensures) in omega (arith, product-small (c .before .before .before .before .before .args .self .x) (c .before .power .result) 0 4294967295 (omega arith) (k .2) (omega arith))
+mul-t6 c =
+    let k = power-small _ _ _ (c .before .before .bits-after .ensures) (c .before .power .ensures) in omega (
+      arith,
+      product-small
+          (c .before .before .before .before .before .args .self .x) (c .before .power .result) 0 4294967295 (omega arith) (k .2) (omega arith),
+    )
 
 -- src/lib.rt:85:20
 add-t7 : tie.Need-add-t7
-add-t7 c = let k = power-small _ _ _ (c .before .before .before .bits-after .ensures) (c .before .before .power .ensures) in omega (arith, product-small (c .before .before .before .before .before .before .args .self .x) (c .before .before .power .result) (c .before .before .before .before .fetch .result .byte) 4294967295 (omega arith) (k .2) (c .before .before .before .before .fetch .ensures .1))
+add-t7 c =
+    let k = power-small _ _ _ (c .before .before .before .bits-after .ensures) (c .before .before .power .ensures) in omega (
+      arith,
+      product-small
+          (c .before .before .before .before .before .before .args .self .x) (c .before .before .power .result)
+          (c .before .before .before .before .fetch .result .byte) 4294967295 (omega arith) (k .2) (c .before .before .before .before .fetch .ensures .1),
+    )
 
 -- src/lib.rt:85:76
 add-t9 : tie.Need-add-t9
-add-t9 c = omega (arith, power-small _ _ _ (c .before .before .before .before .bits-after .ensures) (c .before .before .before .power .ensures), c .before .before .before .before .before .before .before .pre .1)
+add-t9 c =
+    omega (
+      arith,
+      power-small _ _ _ (c .before .before .before .before .bits-after .ensures) (c .before .before .before .power .ensures),
+      c .before .before .before .before .before .before .before .pre .1,
+    )
 
 -- src/lib.rt:79:5
 returns : tie.Need-returns

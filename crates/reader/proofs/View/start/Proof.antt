@@ -5,11 +5,6 @@ use native.Mathlib.Omega.{arith}
 use Rattle.reader.specs.Views.{view-start, power-small, product-small}
 use Rattle.reader.proofs.View.start.Statement.{statement}
 use Rattle.reader.proofs.View.start.Tie as tie
-use Rattle.reader.proofs.View.start.Reads as reads
-use Rattle.reader.proofs.View.start.Lts as lts
-use Rattle.octets.proofs.power.Reads as power-reads
-use Rattle.reader.proofs.bits_after.Reads as bits-after-reads
-use Rattle.reader.proofs.fetch.Reads as fetch-reads
 
 -- src/lib.rt:72:13
 fetch-requires : tie.Need-fetch-requires
@@ -29,11 +24,24 @@ power-requires c κs = omega (arith, power-small _ _ _ (c .bits-after .ensures) 
 
 -- src/lib.rt:75:19
 mul-t6 : tie.Need-mul-t6
-mul-t6 c = let k = power-small _ _ _ (c .before .before .bits-after .ensures) (c .before .power .ensures) in omega (arith, product-small (c .before .before .before .before .fetch .result .byte) (c .before .power .result) 0 255 (c .before .before .before .before .fetch .ensures .1) (k .2) (omega arith))
+mul-t6 c =
+    let k = power-small _ _ _ (c .before .before .bits-after .ensures) (c .before .power .ensures) in omega (
+      arith,
+      product-small
+          (c .before .before .before .before .fetch .result .byte) (c .before .power .result) 0 255 (c .before .before .before .before .fetch .ensures .1)
+          (k .2) (omega arith),
+    )
 
 -- src/lib.rt:75:19
 add-t7 : tie.Need-add-t7
-add-t7 c = let k = power-small _ _ _ (c .before .before .before .bits-after .ensures) (c .before .before .power .ensures) in omega (arith, product-small (c .before .before .before .before .before .fetch .result .byte) (c .before .before .power .result) (c .before .before .before .before .fetch2 .result .byte) 255 (c .before .before .before .before .before .fetch .ensures .1) (k .2) (c .before .before .before .before .fetch2 .ensures .1))
+add-t7 c =
+    let k = power-small _ _ _ (c .before .before .before .bits-after .ensures) (c .before .before .power .ensures) in omega (
+      arith,
+      product-small
+          (c .before .before .before .before .before .fetch .result .byte) (c .before .before .power .result)
+          (c .before .before .before .before .fetch2 .result .byte) 255 (c .before .before .before .before .before .fetch .ensures .1) (k .2)
+          (c .before .before .before .before .fetch2 .ensures .1),
+    )
 
 -- src/lib.rt:75:61
 sub-t8 : tie.Need-sub-t8
