@@ -23,9 +23,9 @@ use Rattle.desk.specs.Refusals.{refusal}
 use Rattle.desk.specs.Calls.{refused, done, bandOf, writeTests, servedPage, bandDesk, writeSpec, writeLent}
 use Rattle.calls.specs.Refusing.{early, given-lawful, Begun, begun, early-keeps, at-early, at-size, at-none, at-other-way, at-pels, at-padding, at-room, at-end, refuses, keeps, clears}
 
--- the page after a band that was written
-unfoldable pub pageAfter : Page → Wrote → Page
-pageAfter p w = record { state = p .state; school = p .school; class = p .class; width = p .width; table = w .table; last = w .last }
+-- the page after a band: its table and last row
+unfoldable pub pageAfter : Page → Table → List ℕ → Page
+pageAfter p t l = record { state = p .state; school = p .school; class = p .class; width = p .width; table = t; last = l }
 
 -- what writing a band gives, with room and without
 abbrev withRoom : Written → Wrote
@@ -150,7 +150,7 @@ module _ (d : Desk) (ask : Ask) (pels out : List ℕ) where
         rw (room-is false h)
         (clears (refusal (writeTests d ask pels out)) out (inFront (bandOf (pageAt d (pageFound d (ask .key))) (ask .rows) pels .code) out) e)
 
-    pub write-done : (served : Page) → r .room ≡ true → refusal (writeTests d ask pels out) ≡ 0 → served ≡ pageAfter (getD (d .pages) i noPage) r
+    pub write-done : (served : Page) → r .room ≡ true → refusal (writeTests d ask pels out) ≡ 0 → served ≡ pageAfter (getD (d .pages) i noPage) (r .table) (r .last)
         → done (r .length) (r .shifts) (record { pages = set (d .pages) i served; places = d .places }) ≡ writeSpec d ask pels out
     unfolding writeSpec bandDesk servedPage pageAfter wroteAnswer
     write-done served h e q = let g = rw (room-is true h) at answer in rw (e, f, q, g)

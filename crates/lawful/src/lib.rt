@@ -31,7 +31,7 @@ pub fn lawful_key(school: u64, class: u64) -> bool
 }
 
 // 1 to 2,048.
-pub fn lawful_width(width: u64) -> bool
+fn lawful_width(width: u64) -> bool
     ensures { λ r. ⌜ r ≡ within 1 width maxWidth ⌝ }
 {
     if width < 1 {
@@ -69,7 +69,7 @@ fn low_indexes(entries: &[u8]) -> bool
 }
 
 // The padding bits of a row are zero bits.
-pub fn row_padded(row: &[u8], width: usize) -> bool
+fn row_padded(row: &[u8], width: usize) -> bool
     requires { ⌜ (1 ≤ width) × (width ≤ 65535) × (width ≤ 8 * length (now row)) ⌝ }
     ensures { λ r. ⌜ r ≡ rowPadded width (now (row .entry)) ⌝ }
 {
@@ -90,7 +90,7 @@ fn no_stray(last: &[u8], width: usize) -> bool
 }
 
 // Whether what has that state and that key is used, and under the key asked for.
-pub fn is_under(state: u64, school: u64, class: u64, key: Key) -> bool
+fn is_under(state: u64, school: u64, class: u64, key: Key) -> bool
     ensures { λ r. ⌜ r ≡ isUnder state school class key ⌝ }
 {
     if state == 0 {

@@ -23,24 +23,18 @@ returns-2 c =
     c .refused2 .ensures
     ∙ found-damaged (a .d) (a .i) (a .page) (a .read) (not-false (a .read .room) (c .before .before .before .if1 .left)) (not-true (a .read .good) (c .before .if2 .taken))
 
-read-page-requires : tie.Need-read-page-requires
-read-page-requires c κs = search needs
+served-page-requires : tie.Need-served-page-requires
+served-page-requires c κs = search needs
 
-mul-served : tie.Need-mul-served
-mul-served c = search needs
-
-element-set-from-served : tie.Need-element-set-from-served
-element-set-from-served c = search needs
-
-done-requires : tie.Need-done-requires
-done-requires c κs = search needs
+serve-requires : tie.Need-serve-requires
+serve-requires c κs = search needs
 
 returns-3 : tie.Need-returns-3
 returns-3 c =
-    let a = c .before .before .before .before .before .before .args in
-    c .done .ensures
-    ∙ found-band (a .d) (a .i) (a .page) (a .read) (c .before .read-page .result) (not-false (a .read .room) (c .before .before .before .before .if1 .left))
-    (not-false (a .read .good) (c .before .before .if2 .left)) (c .before .read-page .ensures)
+    let a = c .before .before .before .before .before .before .before .args in
+    c .serve .ensures
+    ∙ found-band (a .d) (a .i) (a .page) (a .read) (c .before .served-page .result) (not-false (a .read .room) (c .before .before .before .before .before .if1 .left))
+    (not-false (a .read .good) (c .before .before .before .if2 .left)) (c .before .served-page .ensures)
 
 pub read-found-spec : {M : Type 1} → statement M
 read-found-spec =
@@ -50,8 +44,6 @@ read-found-spec =
     returns
     refused-requires-2
     returns-2
-    read-page-requires
-    mul-served
-    element-set-from-served
-    done-requires
+    served-page-requires
+    serve-requires
     returns-3)

@@ -226,16 +226,9 @@ returns-7 c =
 served-page-requires : tie.Need-served-page-requires
 served-page-requires c κs = search needs
 
-mul-served : tie.Need-mul-served
-mul-served c = let h = slot-within (c .before .before .before .before .before .before .before .before .before .before .before .before .before .before .before .before) in
-    omega arith
-
-element-set-from-served : tie.Need-element-set-from-served
-element-set-from-served c = slot-within
-    (c .before .before .before .before .before .before .before .before .before .before .before .before .before .before .before .before)
-
-done-requires : tie.Need-done-requires
-done-requires c κs = search needs
+serve-requires : tie.Need-serve-requires
+serve-requires c κs = slot-within
+    (c .before .before .before .before .before .before .before .before .before .before .before .before .before .before .before .before .before)
 
 same-length-2 : tie.Need-same-length-2
 same-length-2 c = search needs
@@ -243,19 +236,19 @@ same-length-2 c = search needs
 returns-8 : tie.Need-returns-8
 unfolding bandOf
 returns-8 c =
-    let a = c .before .before .before .before .before .before .before .before .before .before .before .before .before .before .before .before .before .before .before .before .before .before .before .before .before .before .before .before .before .args in
-    let f = sym (c .before .before .before .before .before .before .before .before .before .before .before .before .before .before .before .before .before .before .before .before .find-page .ensures .0) ∙ c .before .before .before .before .before .before .before .before .before .before .before .before .before .before .before .before .before .before .i .given .1 in
-    let i = c .before .before .before .before .before .before .before .before .before .before .before .before .before .before .before .before .before .before .i .given .0 .0 in
-    let b = on (c .before .before .before .before .before .before .before .before .before .before .before .before .before .before .before .before .before .before .before .before .before .before .before .before) in
-    let g = ranged (c .before .before .before .before .before .before .before .before .before .before .before .before .before .before .before .before .before .before .before .before .before .before) in
-    let l = exact (c .before .before .before .before .before .before .before .before .before .before .before .before) in
-    let q = padded (c .before .before .before .before .before .before .before .before .before .before) in
-    let w = c .before .before .before .before .before .before .write-band in
-    let o = not-false (w .result .room) (c .before .before .if6 .left) in
+    let a = c .before .before .before .before .before .before .before .before .before .before .before .before .before .before .before .before .before .before .before .before .before .before .before .before .before .before .before .before .before .before .args in
+    let f = sym (c .before .before .before .before .before .before .before .before .before .before .before .before .before .before .before .before .before .before .before .before .before .find-page .ensures .0) ∙ c .before .before .before .before .before .before .before .before .before .before .before .before .before .before .before .before .before .before .before .i .given .1 in
+    let i = c .before .before .before .before .before .before .before .before .before .before .before .before .before .before .before .before .before .before .before .i .given .0 .0 in
+    let b = on (c .before .before .before .before .before .before .before .before .before .before .before .before .before .before .before .before .before .before .before .before .before .before .before .before .before) in
+    let g = ranged (c .before .before .before .before .before .before .before .before .before .before .before .before .before .before .before .before .before .before .before .before .before .before .before) in
+    let l = exact (c .before .before .before .before .before .before .before .before .before .before .before .before .before) in
+    let q = padded (c .before .before .before .before .before .before .before .before .before .before .before) in
+    let w = c .before .before .before .before .before .before .before .write-band in
+    let o = not-false (w .result .room) (c .before .before .before .if6 .left) in
     let e = write-end (a .d) (a .ask) (a .pels .now) (a .out .now) b g i f
-    (c .before .before .before .before .before .before .before .before .before .before .before .before .before .before .if3 .left) l q
+    (c .before .before .before .before .before .before .before .before .before .before .before .before .before .before .before .if3 .left) l q
     (room-is (a .d) (a .ask) (a .pels .now) (a .out .now) i f (w .result) (w .ensures .0) _ o) in (
-      c .done .ensures ∙ write-done (a .d) (a .ask) (a .pels .now) (a .out .now) i f (w .result) (w .ensures .0) (c .before .served-page .result) o e
+      c .serve .ensures ∙ write-done (a .d) (a .ask) (a .pels .now) (a .out .now) i f (w .result) (w .ensures .0) (c .before .served-page .result) o e
           (c .before .served-page .ensures),
       w .ensures .1 ∙ write-lends (a .d) (a .ask) (a .pels .now) (a .out .now) i f (w .result) (w .ensures .0) o e,
     )
@@ -291,8 +284,6 @@ write-when-spec =
     same-length
     returns-7
     served-page-requires
-    mul-served
-    element-set-from-served
-    done-requires
+    serve-requires
     same-length-2
     returns-8)
