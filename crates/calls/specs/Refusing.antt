@@ -2,7 +2,7 @@
 use mathlib.Core.Path.{_≡_, refl, sym, ap, _∙_}
 use Prim.Native.Nat.{ℕ, zero, suc}
 use native.Mathlib.Omega.{arith}
-use mathlib.Core.Bool.{Bool, true, false, not, _&&_}
+use mathlib.Core.Bool.{Bool, true, false, not}
 use mathlib.Core.List.{List}
 use borrow.Author.Tests.{ne-eqb}
 use Rattle.store.specs.Store.{cleared}
@@ -10,15 +10,6 @@ use Rattle.desk.specs.declared.Desk.{Desk}
 use Rattle.desk.specs.declared.Outcome.{Outcome}
 use Rattle.desk.specs.Refusals.{Tests, refusal, refuse, lentAfter}
 use Rattle.desk.specs.Calls.{refused, unless, unlessLent}
-
--- a test after a test
-pub and-goes : (a b : Bool) → a ≡ true → b ≡ (a && b)
-and-goes true b e = refl
-and-goes false b e = absurd (let z : _≡_ {A = ℕ} 0 1 = cc in omega arith)
-
-pub and-stops : (a b : Bool) → a ≡ false → false ≡ (a && b)
-and-stops true b e = sym (ap (λ x. x && b) e)
-and-stops false b e = refl
 
 -- the first two tests, which every call has
 abbrev pub early : Bool → Bool → ℕ

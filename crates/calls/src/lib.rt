@@ -5,7 +5,7 @@ ghost use Prim.Native.Nat.{_*_, _≤_, _<_};
 ghost use lib.ListN.{length, set};
 ghost use Rattle.estimate.specs.declared.Table.{Table};
 ghost use Rattle.store.specs.Store.{inFront};
-ghost use Rattle.desk.specs.Lawful.{within, lawfulKey, lawful};
+ghost use Rattle.desk.specs.Lawful.{lawfulKey, lawful};
 ghost use Rattle.desk.specs.Calls.{done, refused, reservedPlace, learnedPlace, openSpec, closeSpec, abandonSpec, dropSpec, lookSpec, lookLent, writeSpec, writeLent, ReadOutcome};
 ghost use Rattle.calls.specs.Refusing.{early};
 ghost use Rattle.calls.specs.Bands.{pageAfter};
@@ -50,16 +50,6 @@ fn done(len: u64, shifts: u64, d: Desk) -> Outcome
         },
         desk: d,
     }
-}
-
-// A number from 1 to a limit.
-fn in_range(n: u64, high: u64) -> bool
-    ensures { λ r. ⌜ r ≡ within 1 n high ⌝ }
-{
-    if 1 <= n {
-        return n <= high;
-    }
-    false
 }
 
 // The refusals that every call tests first, 12 and 1; 0 where it goes on.
@@ -203,7 +193,7 @@ fn open_when(d: Desk, ask: Opening, good: bool) -> Outcome
     if early != 0 {
         return refused(early, d);
     }
-    if !in_range(ask.width, 2048) {
+    if !lawful::in_range(ask.width, 2048) {
         return refused(6, d);
     }
     let pages = d.pages;
@@ -286,7 +276,7 @@ fn write_when(d: Desk, ask: Ask, pels: &[u8], out: &mut [u8], good: bool) -> Out
     if early != 0 {
         return refused(early, d);
     }
-    if !in_range(ask.rows, 64) {
+    if !lawful::in_range(ask.rows, 64) {
         return refused(6, d);
     }
     let pages = d.pages;
@@ -350,7 +340,7 @@ fn read_when(d: Desk, ask: Ask, code: &[u8], out: &mut [u8], good: bool) -> Outc
     if early != 0 {
         return refused(early, d);
     }
-    if !in_range(ask.rows, 64) {
+    if !lawful::in_range(ask.rows, 64) {
         return refused(6, d);
     }
     if code.len() > 32768 {

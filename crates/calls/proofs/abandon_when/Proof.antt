@@ -12,30 +12,12 @@ use Rattle.calls.proofs.abandon_when.Tie as tie
 within : (c : tie.After-known-told) → c .before .i .given .0 .0 < 4
 within c = rw (c .before .i .given .1) at (c .before .before .before .find-page .ensures .1)
 
-early-refusal-requires : tie.Need-early-refusal-requires
-early-refusal-requires c κs = search needs
-
-refused-requires : tie.Need-refused-requires
-refused-requires c κs = search needs
-
 returns : tie.Need-returns
 returns c =
     let a = c .before .before .before .args in
     let r = c .before .before .early-refusal in
     c .refused .ensures ∙ abandon-refused (a .d) (a .key) (r .result)
     (leave-early (a .d) (a .key) (a .good) (r .result) (c .before .before .before .pre) (r .ensures) (c .before .if1 .taken)) (c .before .if1 .taken)
-
-find-page-requires : tie.Need-find-page-requires
-find-page-requires c κs = search needs
-
-enum-known-i : tie.Need-enum-known-i
-enum-known-i c = search needs
-
-enum-told : tie.Need-enum-told
-enum-told c = search needs
-
-refused-requires-2 : tie.Need-refused-requires-2
-refused-requires-2 c κs = search needs
 
 returns-2 : tie.Need-returns-2
 returns-2 c =
@@ -45,23 +27,11 @@ returns-2 c =
     (c .before .before .before .before .before .before .before .pre) (r .ensures) (c .before .before .before .before .before .if1 .left)
     (sym (c .before .before .before .find-page .ensures .0) ∙ c .before .enum-told .given .1)) (λ z. omega arith)
 
-unused-page-requires : tie.Need-unused-page-requires
-unused-page-requires c κs = search needs
-
-find-table-requires : tie.Need-find-table-requires
-find-table-requires c κs = search needs
-
-is-found-requires : tie.Need-is-found-requires
-is-found-requires c κs = search needs
-
 mul-unused : tie.Need-mul-unused
 mul-unused c = let h = within (c .before .before .before .before .before) in omega arith
 
 element-set-from-unused : tie.Need-element-set-from-unused
 element-set-from-unused c = within (c .before .before .before .before .before)
-
-done-requires : tie.Need-done-requires
-done-requires c κs = search needs
 
 returns-3 : tie.Need-returns-3
 returns-3 c =
@@ -80,23 +50,11 @@ returns-3 c =
     (ap isFound (sym (c .before .before .before .find-table .ensures .0)) ∙ sym (c .before .before .is-found .ensures) ∙ c .before .if2 .taken)
     (c .before .before .before .before .unused-page .ensures))
 
-vacant-place-requires : tie.Need-vacant-place-requires
-vacant-place-requires c κs = search needs
-
-find-place-requires : tie.Need-find-place-requires
-find-place-requires c κs = search needs
-
-with-place-requires : tie.Need-with-place-requires
-with-place-requires c κs = search needs
-
 mul-unused-2 : tie.Need-mul-unused-2
 mul-unused-2 c = let h = within (c .before .before .before .before .before .before .before .before) in omega arith
 
 element-set-from-unused-2 : tie.Need-element-set-from-unused-2
 element-set-from-unused-2 c = within (c .before .before .before .before .before .before .before .before)
-
-done-requires-2 : tie.Need-done-requires-2
-done-requires-2 c κs = search needs
 
 returns-4 : tie.Need-returns-4
 returns-4 c =
@@ -122,26 +80,7 @@ returns-4 c =
 pub abandon-when-spec : {M : Type 1} → statement M
 abandon-when-spec =
     tie.close
-    (tie.spec
-    early-refusal-requires
-    refused-requires
-    returns
-    find-page-requires
-    enum-known-i
-    enum-told
-    refused-requires-2
-    returns-2
-    unused-page-requires
-    find-table-requires
-    is-found-requires
-    mul-unused
-    element-set-from-unused
-    done-requires
-    returns-3
-    vacant-place-requires
-    find-place-requires
-    with-place-requires
-    mul-unused-2
-    element-set-from-unused-2
-    done-requires-2
-    returns-4)
+    (tie.spec (λ c κs. search needs) (λ c κs. search needs) returns (λ c κs. search needs) (λ c. search needs) (λ c. search needs)
+    (λ c κs. search needs) returns-2 (λ c κs. search needs) (λ c κs. search needs) (λ c κs. search needs) mul-unused element-set-from-unused
+    (λ c κs. search needs) returns-3 (λ c κs. search needs) (λ c κs. search needs) (λ c κs. search needs) mul-unused-2 element-set-from-unused-2
+    (λ c κs. search needs) returns-4)

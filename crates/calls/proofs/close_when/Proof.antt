@@ -11,30 +11,12 @@ use Rattle.calls.proofs.close_when.Tie as tie
 within : (c : tie.After-known-told) → c .before .i .given .0 .0 < 4
 within c = rw (c .before .i .given .1) at (c .before .before .before .find-page .ensures .1)
 
-early-refusal-requires : tie.Need-early-refusal-requires
-early-refusal-requires c κs = search needs
-
-refused-requires : tie.Need-refused-requires
-refused-requires c κs = search needs
-
 returns : tie.Need-returns
 returns c =
     let a = c .before .before .before .args in
     let r = c .before .before .early-refusal in
     c .refused .ensures ∙ close-refused (a .d) (a .key) (r .result)
     (leave-early (a .d) (a .key) (a .good) (r .result) (c .before .before .before .pre) (r .ensures) (c .before .if1 .taken)) (c .before .if1 .taken)
-
-find-page-requires : tie.Need-find-page-requires
-find-page-requires c κs = search needs
-
-enum-known-i : tie.Need-enum-known-i
-enum-known-i c = search needs
-
-enum-told : tie.Need-enum-told
-enum-told c = search needs
-
-refused-requires-2 : tie.Need-refused-requires-2
-refused-requires-2 c κs = search needs
 
 returns-2 : tie.Need-returns-2
 returns-2 c =
@@ -44,32 +26,17 @@ returns-2 c =
     (c .before .before .before .before .before .before .before .pre) (r .ensures) (c .before .before .before .before .before .if1 .left)
     (sym (c .before .before .before .find-page .ensures .0) ∙ c .before .enum-told .given .1)) (λ z. omega arith)
 
-find-place-requires : tie.Need-find-place-requires
-find-place-requires c κs = search needs
-
 mul-page : tie.Need-mul-page
 mul-page c = let h = within (c .before .before) in omega arith
 
 array-copy-out-page : tie.Need-array-copy-out-page
 array-copy-out-page c = within (c .before .before)
 
-unused-page-requires : tie.Need-unused-page-requires
-unused-page-requires c κs = search needs
-
-learned-place-requires : tie.Need-learned-place-requires
-learned-place-requires c κs = search needs
-
-with-place-requires : tie.Need-with-place-requires
-with-place-requires c κs = search needs
-
 mul-unused : tie.Need-mul-unused
 mul-unused c = let h = within (c .before .before .before .before .before .before) in omega arith
 
 element-set-from-unused : tie.Need-element-set-from-unused
 element-set-from-unused c = within (c .before .before .before .before .before .before)
-
-done-requires : tie.Need-done-requires
-done-requires c κs = search needs
 
 returns-3 : tie.Need-returns-3
 returns-3 c =
@@ -91,22 +58,6 @@ returns-3 c =
 pub close-when-spec : {M : Type 1} → statement M
 close-when-spec =
     tie.close
-    (tie.spec
-    early-refusal-requires
-    refused-requires
-    returns
-    find-page-requires
-    enum-known-i
-    enum-told
-    refused-requires-2
-    returns-2
-    find-place-requires
-    mul-page
-    array-copy-out-page
-    unused-page-requires
-    learned-place-requires
-    with-place-requires
-    mul-unused
-    element-set-from-unused
-    done-requires
-    returns-3)
+    (tie.spec (λ c κs. search needs) (λ c κs. search needs) returns (λ c κs. search needs) (λ c. search needs) (λ c. search needs)
+    (λ c κs. search needs) returns-2 (λ c κs. search needs) mul-page array-copy-out-page (λ c κs. search needs) (λ c κs. search needs)
+    (λ c κs. search needs) mul-unused element-set-from-unused (λ c κs. search needs) returns-3)

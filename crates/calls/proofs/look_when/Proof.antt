@@ -11,12 +11,6 @@ use Rattle.calls.proofs.look_when.Tie as tie
 within : (c : tie.After-known-told) → c .before .i .given .0 .0 < 8
 within c = rw (c .before .i .given .1) at (c .before .before .before .find-table .ensures .1)
 
-early-refusal-requires : tie.Need-early-refusal-requires
-early-refusal-requires c κs = search needs
-
-refused-requires : tie.Need-refused-requires
-refused-requires c κs = search needs
-
 returns : tie.Need-returns
 returns c =
     let a = c .before .before .before .before .args in
@@ -26,18 +20,6 @@ returns c =
       look-keeps (a .d) (a .key) (a .out .now) (r .result) e
           (c .before .if1 .taken) (look-early-keeps (a .d) (a .key) (a .good) (r .result) (c .before .before .before .before .pre) (r .ensures) (a .out .now)),
     )
-
-find-table-requires : tie.Need-find-table-requires
-find-table-requires c κs = search needs
-
-enum-known-i : tie.Need-enum-known-i
-enum-known-i c = search needs
-
-enum-told : tie.Need-enum-told
-enum-told c = search needs
-
-refused-requires-2 : tie.Need-refused-requires-2
-refused-requires-2 c κs = search needs
 
 returns-2 : tie.Need-returns-2
 returns-2 c =
@@ -49,15 +31,6 @@ returns-2 c =
       look-keeps (a .d) (a .key) (a .out .now) 11 e (λ z. omega arith)
           (λ z. omega arith, λ z. omega arith),
     )
-
-clear-requires : tie.Need-clear-requires
-clear-requires c κs = search needs
-
-refused-requires-3 : tie.Need-refused-requires-3
-refused-requires-3 c κs = search needs
-
-same-length : tie.Need-same-length
-same-length c = search needs
 
 returns-3 : tie.Need-returns-3
 returns-3 c =
@@ -80,15 +53,6 @@ mul-place c = let h = within (c .before) in omega arith
 array-copy-out-place : tie.Need-array-copy-out-place
 array-copy-out-place c = within (c .before)
 
-show-table-requires : tie.Need-show-table-requires
-show-table-requires c κs = search needs
-
-done-requires : tie.Need-done-requires
-done-requires c κs = search needs
-
-same-length-2 : tie.Need-same-length-2
-same-length-2 c = search needs
-
 returns-4 : tie.Need-returns-4
 returns-4 c =
     let a = c .before .before .before .before .before .before .before .before .before .before .before .before .before .before .before .args in
@@ -109,22 +73,6 @@ returns-4 c =
 pub look-when-spec : {M : Type 1} → statement M
 look-when-spec =
     tie.close
-    (tie.spec
-    early-refusal-requires
-    refused-requires
-    returns
-    find-table-requires
-    enum-known-i
-    enum-told
-    refused-requires-2
-    returns-2
-    clear-requires
-    refused-requires-3
-    same-length
-    returns-3
-    mul-place
-    array-copy-out-place
-    show-table-requires
-    done-requires
-    same-length-2
-    returns-4)
+    (tie.spec (λ c κs. search needs) (λ c κs. search needs) returns (λ c κs. search needs) (λ c. search needs) (λ c. search needs)
+    (λ c κs. search needs) returns-2 (λ c κs. search needs) (λ c κs. search needs) (λ c. search needs) returns-3 mul-place array-copy-out-place
+    (λ c κs. search needs) (λ c κs. search needs) (λ c. search needs) returns-4)

@@ -17,24 +17,12 @@ slot-within c = rw (c .before .i .given .1) at (c .before .before .before .free-
 place-within : (c : tie.After-known-told2) → c .before .j .given .0 .0 < 8
 place-within c = rw (c .before .j .given .1) at (c .before .before .before .find-table .ensures .1)
 
-early-refusal-requires : tie.Need-early-refusal-requires
-early-refusal-requires c κs = search needs
-
-refused-requires : tie.Need-refused-requires
-refused-requires c κs = search needs
-
 returns : tie.Need-returns
 returns c =
     let a = c .before .before .before .before .args in
     let r = c .before .before .early-refusal in
     c .refused .ensures ∙ open-refused (a .d) (a .ask) (r .result)
     (open-early (a .d) (a .ask) (a .good) (r .result) (c .before .before .before .before .pre) (r .ensures) (c .before .if1 .taken)) (c .before .if1 .taken)
-
-in-range-requires : tie.Need-in-range-requires
-in-range-requires c κs = search needs
-
-refused-requires-2 : tie.Need-refused-requires-2
-refused-requires-2 c κs = search needs
 
 returns-2 : tie.Need-returns-2
 returns-2 c =
@@ -43,15 +31,6 @@ returns-2 c =
     let r = c .before .before .before .before .early-refusal in
     c .refused2 .ensures ∙ open-refused (a .d) (a .ask) 6 (open-size (a .d) (a .ask) (a .good) (r .result) (c .before .before .before .before .before .before .pre)
     (r .ensures) (c .before .before .before .if1 .left) w) (λ z. omega arith)
-
-find-page-requires : tie.Need-find-page-requires
-find-page-requires c κs = search needs
-
-is-found-requires : tie.Need-is-found-requires
-is-found-requires c κs = search needs
-
-refused-requires-3 : tie.Need-refused-requires-3
-refused-requires-3 c κs = search needs
 
 returns-3 : tie.Need-returns-3
 returns-3 c =
@@ -63,18 +42,6 @@ returns-3 c =
     c .refused3 .ensures ∙ open-refused (a .d) (a .ask) 3 (open-opened (a .d) (a .ask) (a .good) (r .result)
     (c .before .before .before .before .before .before .before .before .before .before .pre) (r .ensures)
     (c .before .before .before .before .before .before .before .if1 .left) w o) (λ z. omega arith)
-
-free-page-requires : tie.Need-free-page-requires
-free-page-requires c κs = search needs
-
-enum-known-i : tie.Need-enum-known-i
-enum-known-i c = search needs
-
-enum-told : tie.Need-enum-told
-enum-told c = search needs
-
-refused-requires-4 : tie.Need-refused-requires-4
-refused-requires-4 c κs = search needs
 
 returns-4 : tie.Need-returns-4
 returns-4 c =
@@ -89,15 +56,6 @@ returns-4 c =
     (c .before .before .before .before .before .before .before .before .before .before .before .before .before .pre) (r .ensures)
     (c .before .before .before .before .before .before .before .before .before .before .if1 .left) w o
     (sym (c .before .before .before .free-page .ensures .0) ∙ c .before .enum-told .given .1)) (λ z. omega arith)
-
-find-table-requires : tie.Need-find-table-requires
-find-table-requires c κs = search needs
-
-enum-known-j : tie.Need-enum-known-j
-enum-known-j c = search needs
-
-enum-told-2 : tie.Need-enum-told-2
-enum-told-2 c = search needs
 
 open-new-requires : tie.Need-open-new-requires
 open-new-requires c κs = slot-within (c .before .before .before .before)
@@ -126,17 +84,11 @@ mul-learned c = let h = place-within c in omega arith
 array-copy-out-learned : tie.Need-array-copy-out-learned
 array-copy-out-learned c = place-within c
 
-page-from-requires : tie.Need-page-from-requires
-page-from-requires c κs = search needs
-
 mul-opened : tie.Need-mul-opened
 mul-opened c = let h = slot-within (c .before .before .before .before .before .before .before) in omega arith
 
 element-set-from-opened : tie.Need-element-set-from-opened
 element-set-from-opened c = slot-within (c .before .before .before .before .before .before .before)
-
-done-requires : tie.Need-done-requires
-done-requires c κs = search needs
 
 returns-6 : tie.Need-returns-6
 returns-6 c =
@@ -155,31 +107,7 @@ returns-6 c =
 pub open-when-spec : {M : Type 1} → statement M
 open-when-spec =
     tie.close
-    (tie.spec
-    early-refusal-requires
-    refused-requires
-    returns
-    in-range-requires
-    refused-requires-2
-    returns-2
-    find-page-requires
-    is-found-requires
-    refused-requires-3
-    returns-3
-    free-page-requires
-    enum-known-i
-    enum-told
-    refused-requires-4
-    returns-4
-    find-table-requires
-    enum-known-j
-    enum-told-2
-    open-new-requires
-    returns-5
-    mul-learned
-    array-copy-out-learned
-    page-from-requires
-    mul-opened
-    element-set-from-opened
-    done-requires
-    returns-6)
+    (tie.spec (λ c κs. search needs) (λ c κs. search needs) returns (λ c κs. search needs) (λ c κs. search needs) returns-2 (λ c κs. search needs)
+    (λ c κs. search needs) (λ c κs. search needs) returns-3 (λ c κs. search needs) (λ c. search needs) (λ c. search needs) (λ c κs. search needs)
+    returns-4 (λ c κs. search needs) (λ c. search needs) (λ c. search needs) open-new-requires returns-5 mul-learned array-copy-out-learned
+    (λ c κs. search needs) mul-opened element-set-from-opened (λ c κs. search needs) returns-6)

@@ -41,12 +41,6 @@ at-slot c = sym (c .before .before .before .find-page .ensures .0) ∙ c .before
 opened : (c : tie.After-known-told) → let a = c .before .before .before .before .before .before .before .before .before .before .before .before .before .args in OpenPage (getD (a .d .pages) (c .before .i .given .0 .0) noPage)
 opened c = let a = c .before .before .before .before .before .before .before .before .before .before .before .before .before .args in opened-page (a .d) (a .ask) (a .code .now) (a .out .now) (on (c .before .before .before .before .before .before .before .before)) (c .before .i .given .0 .0) (at-slot c)
 
-early-refusal-requires : tie.Need-early-refusal-requires
-early-refusal-requires c κs = search needs
-
-refused-requires : tie.Need-refused-requires
-refused-requires c κs = search needs
-
 returns : tie.Need-returns
 returns c =
     let a = c .before .before .before .before .before .before .args in
@@ -54,12 +48,6 @@ returns c =
     read-refused (a .d) (a .ask) (a .code .now) (a .out .now) (c .refused .result) (r .result) (c .refused .ensures)
     (read-early (a .d) (a .ask) (a .code .now) (a .out .now) (a .good) (r .result) (c .before .before .before .before .before .before .pre) (r .ensures) (c .before .if1 .taken)) (c .before .if1 .taken)
     (read-early-keeps (a .d) (a .ask) (a .code .now) (a .out .now) (a .good) (r .result) (c .before .before .before .before .before .before .pre) (r .ensures))
-
-in-range-requires : tie.Need-in-range-requires
-in-range-requires c κs = search needs
-
-refused-requires-2 : tie.Need-refused-requires-2
-refused-requires-2 c κs = search needs
 
 returns-2 : tie.Need-returns-2
 returns-2 c =
@@ -69,27 +57,12 @@ returns-2 c =
     (read-rows (a .d) (a .ask) (a .code .now) (a .out .now) (on (c .before .before .before)) (sym (w .ensures) ∙ not-true (w .result) (c .before .if2 .taken)))
     (λ z. omega arith) (λ z. omega arith, λ z. omega arith)
 
-refused-requires-3 : tie.Need-refused-requires-3
-refused-requires-3 c κs = search needs
-
 returns-3 : tie.Need-returns-3
 returns-3 c =
     let a = c .before .before .before .before .before .before .before .before .before .args in
     read-refused (a .d) (a .ask) (a .code .now) (a .out .now) (c .refused3 .result) 6 (c .refused3 .ensures)
     (read-long (a .d) (a .ask) (a .code .now) (a .out .now) (on (c .before .before .before .before)) (ranged (c .before .before)) (c .before .if3 .taken))
     (λ z. omega arith) (λ z. omega arith, λ z. omega arith)
-
-find-page-requires : tie.Need-find-page-requires
-find-page-requires c κs = search needs
-
-enum-known-i : tie.Need-enum-known-i
-enum-known-i c = search needs
-
-enum-told : tie.Need-enum-told
-enum-told c = search needs
-
-refused-requires-4 : tie.Need-refused-requires-4
-refused-requires-4 c κs = search needs
 
 returns-4 : tie.Need-returns-4
 returns-4 c =
@@ -103,9 +76,6 @@ mul-page c = let h = slot-within c in omega arith
 
 array-copy-out-page : tie.Need-array-copy-out-page
 array-copy-out-page c = slot-within c
-
-refused-requires-5 : tie.Need-refused-requires-5
-refused-requires-5 c κs = search needs
 
 returns-5 : tie.Need-returns-5
 returns-5 c =
@@ -123,9 +93,6 @@ read-band-requires c κs =
 read-found-requires : tie.Need-read-found-requires
 read-found-requires c κs = slot-within (c .before .before .before .before .before .before .before .before .before)
 
-same-length : tie.Need-same-length
-same-length c = search needs
-
 returns-6 : tie.Need-returns-6
 returns-6 c =
     let a = c .before .before .before .before .before .before .before .before .before .before .before .before .before .before .before .before .before .before .before .before .before .before .before .args in
@@ -141,25 +108,6 @@ returns-6 c =
 pub read-when-spec : {M : Type 1} → statement M
 read-when-spec =
     tie.close
-    (tie.spec
-    early-refusal-requires
-    refused-requires
-    returns
-    in-range-requires
-    refused-requires-2
-    returns-2
-    refused-requires-3
-    returns-3
-    find-page-requires
-    enum-known-i
-    enum-told
-    refused-requires-4
-    returns-4
-    mul-page
-    array-copy-out-page
-    refused-requires-5
-    returns-5
-    read-band-requires
-    read-found-requires
-    same-length
-    returns-6)
+    (tie.spec (λ c κs. search needs) (λ c κs. search needs) returns (λ c κs. search needs) (λ c κs. search needs) returns-2 (λ c κs. search needs)
+    returns-3 (λ c κs. search needs) (λ c. search needs) (λ c. search needs) (λ c κs. search needs) returns-4 mul-page array-copy-out-page
+    (λ c κs. search needs) returns-5 read-band-requires read-found-requires (λ c. search needs) returns-6)

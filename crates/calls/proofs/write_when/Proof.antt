@@ -65,12 +65,6 @@ padded : (c : tie.Else5) →
     bandPadded (getD (a .d .pages) i noPage .width) (a .pels .now) (a .ask .rows) ≡ true
 padded c = sym (c .before .band-padded .ensures) ∙ not-false (c .before .band-padded .result) (c .if5 .left)
 
-early-refusal-requires : tie.Need-early-refusal-requires
-early-refusal-requires c κs = search needs
-
-refused-requires : tie.Need-refused-requires
-refused-requires c κs = search needs
-
 returns : tie.Need-returns
 returns c =
     let a = c .before .before .before .before .before .before .args in
@@ -83,12 +77,6 @@ returns c =
           (c .before .before .before .before .before .before .pre) (r .ensures)),
     )
 
-in-range-requires : tie.Need-in-range-requires
-in-range-requires c κs = search needs
-
-refused-requires-2 : tie.Need-refused-requires-2
-refused-requires-2 c κs = search needs
-
 returns-2 : tie.Need-returns-2
 returns-2 c =
     let a = c .before .before .before .before .before .before .before .before .args in
@@ -99,18 +87,6 @@ returns-2 c =
       write-keeps (a .d) (a .ask) (a .pels .now)
           (a .out .now) 6 e (λ z. omega arith) (λ z. omega arith, λ z. omega arith),
     )
-
-find-page-requires : tie.Need-find-page-requires
-find-page-requires c κs = search needs
-
-enum-known-i : tie.Need-enum-known-i
-enum-known-i c = search needs
-
-enum-told : tie.Need-enum-told
-enum-told c = search needs
-
-refused-requires-3 : tie.Need-refused-requires-3
-refused-requires-3 c κs = search needs
 
 returns-3 : tie.Need-returns-3
 returns-3 c =
@@ -128,9 +104,6 @@ mul-page c = let h = slot-within c in omega arith
 
 array-copy-out-page : tie.Need-array-copy-out-page
 array-copy-out-page c = slot-within c
-
-refused-requires-4 : tie.Need-refused-requires-4
-refused-requires-4 c κs = search needs
 
 returns-4 : tie.Need-returns-4
 returns-4 c =
@@ -151,9 +124,6 @@ row-bytes-requires c κs = let p = opened (c .before .before .before) in omega (
 mul-if4 : tie.Need-mul-if4
 mul-if4 c = let s = sizes c in omega arith
 
-refused-requires-5 : tie.Need-refused-requires-5
-refused-requires-5 c κs = search needs
-
 returns-5 : tie.Need-returns-5
 returns-5 c =
     let a = c .before .before .before .before .before .before .before .before .before .before .before .before .before .before .before .before .before .before .args in
@@ -172,9 +142,6 @@ returns-5 c =
 band-padded-requires : tie.Need-band-padded-requires
 band-padded-requires c κs = let p = opened (c .before .before .before .before .before) in let w = ranged-by
     (c .before .before .before .before .before .before .before .before .before .before) in (p .some, p .small, w .1, exact c)
-
-refused-requires-6 : tie.Need-refused-requires-6
-refused-requires-6 c κs = search needs
 
 returns-6 : tie.Need-returns-6
 returns-6 c =
@@ -197,12 +164,6 @@ write-band-requires c κs = let p = opened (c .before .before .before .before .b
     (c .before .before .before .before .before .before .before .before .before .before .before .before .before .before .before) in
     (p .some, p .small, w .0, w .1, exact (c .before .before .before .before .before), p .table)
 
-refused-requires-7 : tie.Need-refused-requires-7
-refused-requires-7 c κs = search needs
-
-same-length : tie.Need-same-length
-same-length c = search needs
-
 returns-7 : tie.Need-returns-7
 unfolding bandOf
 returns-7 c =
@@ -223,15 +184,9 @@ returns-7 c =
           (a .pels .now) (a .out .now) i f (w .result) (w .ensures .0) o e,
     )
 
-served-page-requires : tie.Need-served-page-requires
-served-page-requires c κs = search needs
-
 serve-requires : tie.Need-serve-requires
 serve-requires c κs = slot-within
     (c .before .before .before .before .before .before .before .before .before .before .before .before .before .before .before .before .before)
-
-same-length-2 : tie.Need-same-length-2
-same-length-2 c = search needs
 
 returns-8 : tie.Need-returns-8
 unfolding bandOf
@@ -256,34 +211,7 @@ returns-8 c =
 pub write-when-spec : {M : Type 1} → statement M
 write-when-spec =
     tie.close
-    (tie.spec
-    early-refusal-requires
-    refused-requires
-    returns
-    in-range-requires
-    refused-requires-2
-    returns-2
-    find-page-requires
-    enum-known-i
-    enum-told
-    refused-requires-3
-    returns-3
-    mul-page
-    array-copy-out-page
-    refused-requires-4
-    returns-4
-    row-bytes-requires
-    mul-if4
-    refused-requires-5
-    returns-5
-    band-padded-requires
-    refused-requires-6
-    returns-6
-    write-band-requires
-    refused-requires-7
-    same-length
-    returns-7
-    served-page-requires
-    serve-requires
-    same-length-2
-    returns-8)
+    (tie.spec (λ c κs. search needs) (λ c κs. search needs) returns (λ c κs. search needs) (λ c κs. search needs) returns-2 (λ c κs. search needs)
+    (λ c. search needs) (λ c. search needs) (λ c κs. search needs) returns-3 mul-page array-copy-out-page (λ c κs. search needs) returns-4
+    row-bytes-requires mul-if4 (λ c κs. search needs) returns-5 band-padded-requires (λ c κs. search needs) returns-6 write-band-requires
+    (λ c κs. search needs) (λ c. search needs) returns-7 (λ c κs. search needs) serve-requires (λ c. search needs) returns-8)
