@@ -10,7 +10,7 @@ use Rattle.store.specs.Store.{inFront}
 use Rattle.estimate.specs.declared.Table.{Table}
 use Rattle.template.specs.Pels.{rowBytes, bandPadded}
 use Rattle.band.specs.declared.Wrote.{Wrote}
-use Rattle.band.specs.Band.{maxRows, Written, written, hasRoom, wroteAnswer, wroteOut}
+use Rattle.band.specs.Band.{maxRows, Written, hasRoom, wroteAnswer, wroteOut}
 use Rattle.desk.specs.declared.Ask.{Ask}
 use Rattle.desk.specs.declared.Page.{Page}
 use Rattle.desk.specs.declared.Desk.{Desk}

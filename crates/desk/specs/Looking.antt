@@ -2,16 +2,13 @@
 use mathlib.Core.Path.{_≡_, refl}
 use mathlib.Core.List.{List}
 use Prim.Native.Nat.{ℕ}
-use lib.ListN.{length}
 use Rattle.band.specs.Band.{Written}
 use Rattle.desk.specs.declared.Key.{Key}
-use Rattle.desk.specs.declared.Page.{Page}
 use Rattle.desk.specs.declared.Desk.{Desk}
 use Rattle.desk.specs.declared.Found.{Found}
 use Rattle.desk.specs.declared.Found.the-variants.{At, Nothing}
 use Rattle.desk.specs.Places.{pageFound, tableFound, pageAt, placeAt, withPage}
 use Rattle.desk.specs.Lawful.{lawful}
-use Rattle.desk.specs.Refusals.{refusal}
 use Rattle.desk.specs.Calls.{lookTests, lookLent, servedPage, bandDesk}
 
 pub band-places : (d : Desk) (k : Key) (w : Written) → bandDesk d k w .places ≡ d .places

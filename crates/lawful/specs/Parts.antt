@@ -7,7 +7,6 @@ use mathlib.Core.Bool.{Bool, true, false, _&&_}
 use lib.Dec.{eqb, leb}
 use lib.ListN.{take}
 use lib.Seq.{getD-take}
-use borrow.Author.Tests.{leb-true}
 use Rattle.template.specs.Pels.{rowBytes, rowPadded}
 use Rattle.band.specs.Band.{maxWidth}
 use Rattle.desk.specs.declared.Key.{Key}
@@ -44,11 +43,3 @@ pub padded-front : (width n : ℕ) (row : List ℕ) (b : Bool) → n ≡ rowByte
 unfolding rowPadded
 padded-front width n row b e h p =
     sym (p ∙ ap (λ (x : ℕ). eqb (x % 2 ^ (8 * rowBytes width - width)) 0) (getD-take (n - 0) row (rowBytes width - 1) 0 (omega arith)))
-
--- both ends of a range that was tested
-both : (a b : Bool) → (a && b) ≡ true → (a ≡ true) × (b ≡ true)
-both true b e = (refl, e)
-both false b e = (e, cc)
-
-pub within-both : (low n high : ℕ) → within low n high ≡ true → (low ≤ n) × (n ≤ high)
-within-both low n high e = let t = both (leb low n) (leb n high) e in (leb-true low n (t .0), leb-true n high (t .1))

@@ -1,5 +1,5 @@
 -- One test after the other. Assumes nothing.
-use Rattle.lawful.specs.Parts.{within-both}
+use Rattle.desk.specs.OpenPages.{within-both}
 use lib.ListN.{length}
 use mathlib.Core.Path.{_≡_, sym, _∙_}
 use borrow.Author.Tests.{le-leb, lt-leb, not-true, not-false}
