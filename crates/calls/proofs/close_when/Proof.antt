@@ -51,7 +51,8 @@ returns-3 c =
     ∙ c .before .before .before .before .before .before .before .before .i .given .1))
     (closes (a .d) (a .key) (c .before .before .before .before .before .before .before .before .i .given .0 .0)
     (c .before .before .before .before .before .find-place .result) (c .before .before .learned-place .result) (c .before .with-place .result)
-    (c .before .before .before .unused-page .result) (sym (c .before .before .before .before .before .before .before .before .before .before .find-page .ensures .0)
+    (c .before .before .before .unused-page .result) (sym
+    (c .before .before .before .before .before .before .before .before .before .before .find-page .ensures .0)
     ∙ c .before .before .before .before .before .before .before .before .i .given .1) (c .before .before .before .before .before .find-place .ensures .0)
     (c .before .before .learned-place .ensures) (c .before .with-place .ensures) (c .before .before .before .unused-page .ensures))
 

@@ -25,7 +25,8 @@ returns-2 c =
     let r = c .before .before .before .before .before .before .early-refusal in
     c .refused2 .ensures ∙ drop-refused (a .d) (a .key) 3 (drop-opened (a .d) (a .key) (a .good) (r .result)
     (c .before .before .before .before .before .before .before .pre) (r .ensures) (c .before .before .before .before .before .if1 .left)
-    (ap isFound (sym (c .before .before .before .find-page .ensures .0)) ∙ sym (c .before .before .is-found .ensures) ∙ c .before .if2 .taken)) (λ z. omega arith)
+    (ap isFound (sym (c .before .before .before .find-page .ensures .0)) ∙ sym (c .before .before .is-found .ensures) ∙ c .before .if2 .taken)) (λ z.
+    omega arith)
 
 returns-3 : tie.Need-returns-3
 returns-3 c =
@@ -50,11 +51,14 @@ returns-4 c =
     let r = c .before .before .before .before .before .before .before .before .before .before .before .before .early-refusal in
     c .done .ensures
     ∙ drop-done (a .d) (a .key) (c .before .before .before .i .given .0 .0) (c .before .vacant-place .result)
-    (drop-end (a .d) (a .key) (a .good) (r .result) (c .before .before .before .before .before .before .before .before .before .before .before .before .before .pre)
+    (drop-end (a .d) (a .key) (a .good) (r .result)
+    (c .before .before .before .before .before .before .before .before .before .before .before .before .before .pre)
     (r .ensures) (c .before .before .before .before .before .before .before .before .before .before .before .if1 .left)
     (ap isFound (sym (c .before .before .before .before .before .before .before .before .before .find-page .ensures .0)) ∙ sym
-    (c .before .before .before .before .before .before .before .before .is-found .ensures) ∙ c .before .before .before .before .before .before .before .if2 .left)
-    (c .before .before .before .i .given .0 .0) (sym (c .before .before .before .before .before .find-table .ensures .0) ∙ c .before .before .before .i .given .1))
+    (c .before .before .before .before .before .before .before .before .is-found .ensures) ∙
+    c .before .before .before .before .before .before .before .if2 .left)
+    (c .before .before .before .i .given .0 .0) (sym (c .before .before .before .before .before .find-table .ensures .0) ∙
+    c .before .before .before .i .given .1))
     (sym (c .before .before .before .before .before .find-table .ensures .0) ∙ c .before .before .before .i .given .1) (c .before .vacant-place .ensures)
 
 pub drop-when-spec : {M : Type 1} → statement M

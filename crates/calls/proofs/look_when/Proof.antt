@@ -25,7 +25,8 @@ returns-2 : tie.Need-returns-2
 returns-2 c =
     let a = c .before .before .before .before .before .before .before .before .args in
     let r = c .before .before .before .before .before .before .early-refusal in
-    let e = look-untaught (a .d) (a .key) (a .good) (r .result) (c .before .before .before .before .before .before .before .before .pre) (r .ensures) (a .out .now)
+    let e = look-untaught (a .d) (a .key) (a .good) (r .result) (c .before .before .before .before .before .before .before .before .pre) (r .ensures)
+    (a .out .now)
     (c .before .before .before .before .before .if1 .left) (sym (c .before .before .before .find-table .ensures .0) ∙ c .before .enum-told .given .1) in (
       c .refused2 .ensures ∙ look-refused (a .d) (a .key) (a .out .now) 11 e (λ z. omega arith),
       look-keeps (a .d) (a .key) (a .out .now) 11 e (λ z. omega arith)

@@ -29,13 +29,15 @@ returns-2 c =
     let a = c .before .before .before .before .before .before .args in
     let w = sym (c .before .before .in-range .ensures) ∙ not-true (c .before .before .in-range .result) (c .before .if2 .taken) in
     let r = c .before .before .before .before .early-refusal in
-    c .refused2 .ensures ∙ open-refused (a .d) (a .ask) 6 (open-size (a .d) (a .ask) (a .good) (r .result) (c .before .before .before .before .before .before .pre)
+    c .refused2 .ensures ∙ open-refused (a .d) (a .ask) 6 (open-size (a .d) (a .ask) (a .good) (r .result)
+    (c .before .before .before .before .before .before .pre)
     (r .ensures) (c .before .before .before .if1 .left) w) (λ z. omega arith)
 
 returns-3 : tie.Need-returns-3
 returns-3 c =
     let a = c .before .before .before .before .before .before .before .before .before .before .args in
-    let w = sym (c .before .before .before .before .before .before .in-range .ensures) ∙ not-false (c .before .before .before .before .before .before .in-range .result)
+    let w = sym (c .before .before .before .before .before .before .in-range .ensures) ∙ not-false
+    (c .before .before .before .before .before .before .in-range .result)
     (c .before .before .before .before .before .if2 .left) in
     let o = ap isFound (sym (c .before .before .before .find-page .ensures .0)) ∙ sym (c .before .before .is-found .ensures) ∙ c .before .if3 .taken in
     let r = c .before .before .before .before .before .before .before .before .early-refusal in
@@ -62,11 +64,14 @@ open-new-requires c κs = slot-within (c .before .before .before .before)
 
 returns-5 : tie.Need-returns-5
 returns-5 c =
-    let a = c .before .before .before .before .before .before .before .before .before .before .before .before .before .before .before .before .before .before .args in
+    let a =
+    c .before .before .before .before .before .before .before .before .before .before .before .before .before .before .before .before .before .before .args
+    in
     let f = sym (c .before .before .before .before .before .before .before .before .free-page .ensures .0)
     ∙ c .before .before .before .before .before .before .i .given .1 in
     let i = c .before .before .before .before .before .before .i .given .0 .0 in
-    let w = sym (c .before .before .before .before .before .before .before .before .before .before .before .before .before .before .in-range .ensures) ∙ not-false
+    let w = sym (c .before .before .before .before .before .before .before .before .before .before .before .before .before .before .in-range .ensures)
+    ∙ not-false
     (c .before .before .before .before .before .before .before .before .before .before .before .before .before .before .in-range .result)
     (c .before .before .before .before .before .before .before .before .before .before .before .before .before .if2 .left) in
     let o = ap isFound (sym (c .before .before .before .before .before .before .before .before .before .before .before .find-page .ensures .0)) ∙ sym
@@ -74,7 +79,8 @@ returns-5 c =
     ∙ c .before .before .before .before .before .before .before .before .before .if3 .left in
     let r = c .before .before .before .before .before .before .before .before .before .before .before .before .before .before .before .before .early-refusal in
     c .open-new .ensures ∙ open-left (a .d) (a .ask) (a .good) (r .result)
-    (c .before .before .before .before .before .before .before .before .before .before .before .before .before .before .before .before .before .before .pre) (r .ensures)
+    (c .before .before .before .before .before .before .before .before .before .before .before .before .before .before .before .before .before .before .pre)
+    (r .ensures)
     (c .before .before .before .before .before .before .before .before .before .before .before .before .before .before .before .if1 .left) w o i f
     (sym (c .before .before .before .find-table .ensures .0) ∙ c .before .enum-told2 .given .1)
 
@@ -92,17 +98,31 @@ element-set-from-opened c = slot-within (c .before .before .before .before .befo
 
 returns-6 : tie.Need-returns-6
 returns-6 c =
-    let a = c .before .before .before .before .before .before .before .before .before .before .before .before .before .before .before .before .before .before .before .before .before .args in
+    let a =
+    c .before .before .before .before .before .before .before .before .before .before .before .before .before .before .before .before .before .before .before .before .before .args
+    in
     let f = sym (c .before .before .before .before .before .before .before .before .before .before .before .free-page .ensures .0)
     ∙ c .before .before .before .before .before .before .before .before .before .i .given .1 in
     let i = c .before .before .before .before .before .before .before .before .before .i .given .0 .0 in
-    let w = sym (c .before .before .before .before .before .before .before .before .before .before .before .before .before .before .before .before .before .in-range .ensures) ∙ not-false (c .before .before .before .before .before .before .before .before .before .before .before .before .before .before .before .before .before .in-range .result) (c .before .before .before .before .before .before .before .before .before .before .before .before .before .before .before .before .if2 .left) in
-    let o = ap isFound (sym (c .before .before .before .before .before .before .before .before .before .before .before .before .before .before .find-page .ensures .0))
+    let w = sym
+    (c .before .before .before .before .before .before .before .before .before .before .before .before .before .before .before .before .before .in-range .ensures)
+    ∙ not-false
+    (c .before .before .before .before .before .before .before .before .before .before .before .before .before .before .before .before .before .in-range .result)
+    (c .before .before .before .before .before .before .before .before .before .before .before .before .before .before .before .before .if2 .left) in
+    let o = ap isFound (sym
+    (c .before .before .before .before .before .before .before .before .before .before .before .before .before .before .find-page .ensures .0))
     ∙ sym (c .before .before .before .before .before .before .before .before .before .before .before .before .before .is-found .ensures)
     ∙ c .before .before .before .before .before .before .before .before .before .before .before .before .if3 .left in
-    let r = c .before .before .before .before .before .before .before .before .before .before .before .before .before .before .before .before .before .before .before .early-refusal in
+    let r =
+    c .before .before .before .before .before .before .before .before .before .before .before .before .before .before .before .before .before .before .before .early-refusal
+    in
     c .done .ensures ∙ open-taught (a .d) (a .ask) (a .good) (r .result)
-    (c .before .before .before .before .before .before .before .before .before .before .before .before .before .before .before .before .before .before .before .before .before .pre) (r .ensures) (c .before .before .before .before .before .before .before .before .before .before .before .before .before .before .before .before .before .before .if1 .left) w o i f (c .before .before .before .before .j .given .0 .0) _ (c .before .page-from .result) (sym (c .before .before .before .before .before .before .find-table .ensures .0) ∙ c .before .before .before .before .j .given .1) refl (c .before .page-from .ensures)
+    (c .before .before .before .before .before .before .before .before .before .before .before .before .before .before .before .before .before .before .before .before .before .pre)
+    (r .ensures)
+    (c .before .before .before .before .before .before .before .before .before .before .before .before .before .before .before .before .before .before .if1 .left)
+    w o i f (c .before .before .before .before .j .given .0 .0) _ (c .before .page-from .result) (sym
+    (c .before .before .before .before .before .before .find-table .ensures .0) ∙ c .before .before .before .before .j .given .1) refl
+    (c .before .page-from .ensures)
 
 pub open-when-spec : {M : Type 1} → statement M
 open-when-spec =

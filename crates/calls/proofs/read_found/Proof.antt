@@ -15,13 +15,15 @@ returns-2 : tie.Need-returns-2
 returns-2 c =
     let a = c .before .before .before .before .before .args in
     c .refused2 .ensures
-    ∙ found-damaged (a .d) (a .i) (a .page) (a .read) (not-false (a .read .room) (c .before .before .before .if1 .left)) (not-true (a .read .good) (c .before .if2 .taken))
+    ∙ found-damaged (a .d) (a .i) (a .page) (a .read) (not-false (a .read .room) (c .before .before .before .if1 .left)) (not-true (a .read .good)
+    (c .before .if2 .taken))
 
 returns-3 : tie.Need-returns-3
 returns-3 c =
     let a = c .before .before .before .before .before .before .before .args in
     c .serve .ensures
-    ∙ found-band (a .d) (a .i) (a .page) (a .read) (c .before .served-page .result) (not-false (a .read .room) (c .before .before .before .before .before .if1 .left))
+    ∙ found-band (a .d) (a .i) (a .page) (a .read) (c .before .served-page .result) (not-false (a .read .room)
+    (c .before .before .before .before .before .if1 .left))
     (not-false (a .read .good) (c .before .before .before .if2 .left)) (c .before .served-page .ensures)
 
 pub read-found-spec : {M : Type 1} → statement M

@@ -39,14 +39,18 @@ at-slot c = sym (c .before .before .before .find-page .ensures .0) ∙ c .before
 
 -- the open page of a lawful desk
 opened : (c : tie.After-known-told) → let a = c .before .before .before .before .before .before .before .before .before .before .before .before .before .args in OpenPage (getD (a .d .pages) (c .before .i .given .0 .0) noPage)
-opened c = let a = c .before .before .before .before .before .before .before .before .before .before .before .before .before .args in opened-page (a .d) (a .ask) (a .code .now) (a .out .now) (on (c .before .before .before .before .before .before .before .before)) (c .before .i .given .0 .0) (at-slot c)
+opened c =
+    let a = c .before .before .before .before .before .before .before .before .before .before .before .before .before .args in opened-page (a .d)
+    (a .ask) (a .code .now) (a .out .now) (on (c .before .before .before .before .before .before .before .before)) (c .before .i .given .0 .0)
+    (at-slot c)
 
 returns : tie.Need-returns
 returns c =
     let a = c .before .before .before .before .before .before .args in
     let r = c .before .before .early-refusal in
     read-refused (a .d) (a .ask) (a .code .now) (a .out .now) (c .refused .result) (r .result) (c .refused .ensures)
-    (read-early (a .d) (a .ask) (a .code .now) (a .out .now) (a .good) (r .result) (c .before .before .before .before .before .before .pre) (r .ensures) (c .before .if1 .taken)) (c .before .if1 .taken)
+    (read-early (a .d) (a .ask) (a .code .now) (a .out .now) (a .good) (r .result) (c .before .before .before .before .before .before .pre)
+    (r .ensures) (c .before .if1 .taken)) (c .before .if1 .taken)
     (read-early-keeps (a .d) (a .ask) (a .code .now) (a .out .now) (a .good) (r .result) (c .before .before .before .before .before .before .pre) (r .ensures))
 
 returns-2 : tie.Need-returns-2
@@ -68,7 +72,9 @@ returns-4 : tie.Need-returns-4
 returns-4 c =
     let a = c .before .before .before .before .before .before .before .before .before .before .before .before .before .args in
     read-refused (a .d) (a .ask) (a .code .now) (a .out .now) (c .refused4 .result) 2 (c .refused4 .ensures)
-    (read-none (a .d) (a .ask) (a .code .now) (a .out .now) (on (c .before .before .before .before .before .before .before .before)) (ranged (c .before .before .before .before .before .before)) (c .before .before .before .before .before .if3 .left) (sym (c .before .before .before .find-page .ensures .0) ∙ c .before .enum-told .given .1))
+    (read-none (a .d) (a .ask) (a .code .now) (a .out .now) (on (c .before .before .before .before .before .before .before .before)) (ranged
+    (c .before .before .before .before .before .before)) (c .before .before .before .before .before .if3 .left) (sym
+    (c .before .before .before .find-page .ensures .0) ∙ c .before .enum-told .given .1))
     (λ z. omega arith) (λ z. omega arith, λ z. omega arith)
 
 mul-page : tie.Need-mul-page
@@ -81,7 +87,11 @@ returns-5 : tie.Need-returns-5
 returns-5 c =
     let a = c .before .before .before .before .before .before .before .before .before .before .before .before .before .before .before .before .before .args in
     read-refused (a .d) (a .ask) (a .code .now) (a .out .now) (c .refused5 .result) 7 (c .refused5 .ensures)
-    (read-other-way (a .d) (a .ask) (a .code .now) (a .out .now) (on (c .before .before .before .before .before .before .before .before .before .before .before .before)) (ranged (c .before .before .before .before .before .before .before .before .before .before)) (c .before .before .before .before .before .before .before .before .before .if3 .left) (c .before .before .before .before .before .i .given .0 .0) (at-slot (c .before .before .before .before)) (c .before .if4 .taken))
+    (read-other-way (a .d) (a .ask) (a .code .now) (a .out .now) (on
+    (c .before .before .before .before .before .before .before .before .before .before .before .before)) (ranged
+    (c .before .before .before .before .before .before .before .before .before .before))
+    (c .before .before .before .before .before .before .before .before .before .if3 .left) (c .before .before .before .before .before .i .given .0 .0)
+    (at-slot (c .before .before .before .before)) (c .before .if4 .taken))
     (λ z. omega arith) (λ z. omega arith, λ z. omega arith)
 
 read-band-requires : tie.Need-read-band-requires
@@ -95,15 +105,20 @@ read-found-requires c κs = slot-within (c .before .before .before .before .befo
 
 returns-6 : tie.Need-returns-6
 returns-6 c =
-    let a = c .before .before .before .before .before .before .before .before .before .before .before .before .before .before .before .before .before .before .before .before .before .before .before .args in
-    let b = on (c .before .before .before .before .before .before .before .before .before .before .before .before .before .before .before .before .before .before) in
+    let a =
+    c .before .before .before .before .before .before .before .before .before .before .before .before .before .before .before .before .before .before .before .before .before .before .before .args
+    in
+    let b = on
+    (c .before .before .before .before .before .before .before .before .before .before .before .before .before .before .before .before .before .before)
+    in
     let g = ranged (c .before .before .before .before .before .before .before .before .before .before .before .before .before .before .before .before) in
     let l = c .before .before .before .before .before .before .before .before .before .before .before .before .before .before .before .if3 .left in
     let i = c .before .before .before .before .before .before .before .before .before .before .before .i .given .0 .0 in
     let f = at-slot (c .before .before .before .before .before .before .before .before .before .before) in
     let w = c .before .before .before .before .before .before .before .if4 .left in
     let r = c .before .before .before .read-band in
-    read-answers (a .d) (a .ask) (a .code .now) (a .out .now) i f (r .result) _ (c .read-found .result) (c .read-found .ensures) (r .ensures) (read-room (a .d) (a .ask) (a .code .now) (a .out .now) b g l i f w) (read-end (a .d) (a .ask) (a .code .now) (a .out .now) b g l i f w)
+    read-answers (a .d) (a .ask) (a .code .now) (a .out .now) i f (r .result) _ (c .read-found .result) (c .read-found .ensures) (r .ensures)
+    (read-room (a .d) (a .ask) (a .code .now) (a .out .now) b g l i f w) (read-end (a .d) (a .ask) (a .code .now) (a .out .now) b g l i f w)
 
 pub read-when-spec : {M : Type 1} → statement M
 read-when-spec =

@@ -33,4 +33,6 @@ returns c =
     l .inv .2 ∙ shown-all (a .out .now) (a .t1 .entries) (l .i) (omega arith) (omega arith)
 
 pub show-table-spec : {M : Type 1} → statement M
-show-table-spec = tie.close (tie.spec Inv-loop μ-loop loop-holds (λ c. omega arith) (λ c. omega arith) (λ c. omega arith) (λ c. omega arith) loop-again same-length returns)
+show-table-spec =
+    tie.close (tie.spec Inv-loop μ-loop loop-holds (λ c. omega arith) (λ c. omega arith) (λ c. omega arith) (λ c. omega arith) loop-again same-length
+    returns)

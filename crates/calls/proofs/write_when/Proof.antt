@@ -57,11 +57,15 @@ exact : (c : tie.Else4) →
     let a = c .before .before .before .before .before .before .before .before .before .before .before .before .before .before .before .before .before .args in
     let i = c .before .before .before .before .before .before .i .given .0 .0 in
     length (a .pels .now) ≡ a .ask .rows * rowBytes (getD (a .d .pages) i noPage .width)
-exact c = let a = c .before .before .before .before .before .before .before .before .before .before .before .before .before .before .before .before .before .args in
+exact c =
+    let a =
+    c .before .before .before .before .before .before .before .before .before .before .before .before .before .before .before .before .before .args in
     c .if4 .left ∙ ap (λ m. a .ask .rows * m) (c .before .row-bytes .ensures)
 
 padded : (c : tie.Else5) →
-    let a = c .before .before .before .before .before .before .before .before .before .before .before .before .before .before .before .before .before .before .before .args in let i = c .before .before .before .before .before .before .before .before .i .given .0 .0 in
+    let a =
+    c .before .before .before .before .before .before .before .before .before .before .before .before .before .before .before .before .before .before .before .args
+    in let i = c .before .before .before .before .before .before .before .before .i .given .0 .0 in
     bandPadded (getD (a .d .pages) i noPage .width) (a .pels .now) (a .ask .rows) ≡ true
 padded c = sym (c .before .band-padded .ensures) ∙ not-false (c .before .band-padded .result) (c .if5 .left)
 
@@ -93,7 +97,8 @@ returns-3 c =
     let a = c .before .before .before .before .before .before .before .before .before .before .before .before .args in
     let b = on (c .before .before .before .before .before .before .before) in
     let g = ranged (c .before .before .before .before .before) in
-    let e = write-none (a .d) (a .ask) (a .pels .now) (a .out .now) b g (sym (c .before .before .before .find-page .ensures .0) ∙ c .before .enum-told .given .1) in (
+    let e = write-none (a .d) (a .ask) (a .pels .now) (a .out .now) b g (sym (c .before .before .before .find-page .ensures .0) ∙
+    c .before .enum-told .given .1) in (
       c .refused3 .ensures ∙ write-refused (a .d) (a .ask) (a .pels .now) (a .out .now) 2 e (λ z. omega arith),
       write-keeps (a .d) (a .ask) (a .pels .now)
           (a .out .now) 2 e (λ z. omega arith) (λ z. omega arith, λ z. omega arith),
@@ -126,7 +131,9 @@ mul-if4 c = let s = sizes c in omega arith
 
 returns-5 : tie.Need-returns-5
 returns-5 c =
-    let a = c .before .before .before .before .before .before .before .before .before .before .before .before .before .before .before .before .before .before .args in
+    let a =
+    c .before .before .before .before .before .before .before .before .before .before .before .before .before .before .before .before .before .before .args
+    in
     let f = sym (c .before .before .before .before .before .before .before .before .before .find-page .ensures .0)
     ∙ c .before .before .before .before .before .before .before .i .given .1 in
     let i = c .before .before .before .before .before .before .before .i .given .0 .0 in
@@ -145,7 +152,9 @@ band-padded-requires c κs = let p = opened (c .before .before .before .before .
 
 returns-6 : tie.Need-returns-6
 returns-6 c =
-    let a = c .before .before .before .before .before .before .before .before .before .before .before .before .before .before .before .before .before .before .before .before .args in
+    let a =
+    c .before .before .before .before .before .before .before .before .before .before .before .before .before .before .before .before .before .before .before .before .args
+    in
     let f = sym (c .before .before .before .before .before .before .before .before .before .before .before .find-page .ensures .0)
     ∙ c .before .before .before .before .before .before .before .before .before .i .given .1 in
     let i = c .before .before .before .before .before .before .before .before .before .i .given .0 .0 in
@@ -167,11 +176,23 @@ write-band-requires c κs = let p = opened (c .before .before .before .before .b
 returns-7 : tie.Need-returns-7
 unfolding bandOf
 returns-7 c =
-    let a = c .before .before .before .before .before .before .before .before .before .before .before .before .before .before .before .before .before .before .before .before .before .before .before .before .before .before .before .before .args in
-    let f = sym (c .before .before .before .before .before .before .before .before .before .before .before .before .before .before .before .before .before .before .before .find-page .ensures .0) ∙ c .before .before .before .before .before .before .before .before .before .before .before .before .before .before .before .before .before .i .given .1 in
-    let i = c .before .before .before .before .before .before .before .before .before .before .before .before .before .before .before .before .before .i .given .0 .0 in
-    let b = on (c .before .before .before .before .before .before .before .before .before .before .before .before .before .before .before .before .before .before .before .before .before .before .before) in
-    let g = ranged (c .before .before .before .before .before .before .before .before .before .before .before .before .before .before .before .before .before .before .before .before .before) in
+    let a =
+    c .before .before .before .before .before .before .before .before .before .before .before .before .before .before .before .before .before .before .before .before .before .before .before .before .before .before .before .before .args
+    in
+    let f = sym
+    (c .before .before .before .before .before .before .before .before .before .before .before .before .before .before .before .before .before .before .before .find-page .ensures .0)
+    ∙
+    c .before .before .before .before .before .before .before .before .before .before .before .before .before .before .before .before .before .i .given .1
+    in
+    let i =
+    c .before .before .before .before .before .before .before .before .before .before .before .before .before .before .before .before .before .i .given .0 .0
+    in
+    let b = on
+    (c .before .before .before .before .before .before .before .before .before .before .before .before .before .before .before .before .before .before .before .before .before .before .before)
+    in
+    let g = ranged
+    (c .before .before .before .before .before .before .before .before .before .before .before .before .before .before .before .before .before .before .before .before .before)
+    in
     let l = exact (c .before .before .before .before .before .before .before .before .before .before .before) in
     let q = padded (c .before .before .before .before .before .before .before .before .before) in
     let w = c .before .before .before .before .before .write-band in
@@ -191,11 +212,23 @@ serve-requires c κs = slot-within
 returns-8 : tie.Need-returns-8
 unfolding bandOf
 returns-8 c =
-    let a = c .before .before .before .before .before .before .before .before .before .before .before .before .before .before .before .before .before .before .before .before .before .before .before .before .before .before .before .before .before .before .args in
-    let f = sym (c .before .before .before .before .before .before .before .before .before .before .before .before .before .before .before .before .before .before .before .before .before .find-page .ensures .0) ∙ c .before .before .before .before .before .before .before .before .before .before .before .before .before .before .before .before .before .before .before .i .given .1 in
-    let i = c .before .before .before .before .before .before .before .before .before .before .before .before .before .before .before .before .before .before .before .i .given .0 .0 in
-    let b = on (c .before .before .before .before .before .before .before .before .before .before .before .before .before .before .before .before .before .before .before .before .before .before .before .before .before) in
-    let g = ranged (c .before .before .before .before .before .before .before .before .before .before .before .before .before .before .before .before .before .before .before .before .before .before .before) in
+    let a =
+    c .before .before .before .before .before .before .before .before .before .before .before .before .before .before .before .before .before .before .before .before .before .before .before .before .before .before .before .before .before .before .args
+    in
+    let f = sym
+    (c .before .before .before .before .before .before .before .before .before .before .before .before .before .before .before .before .before .before .before .before .before .find-page .ensures .0)
+    ∙
+    c .before .before .before .before .before .before .before .before .before .before .before .before .before .before .before .before .before .before .before .i .given .1
+    in
+    let i =
+    c .before .before .before .before .before .before .before .before .before .before .before .before .before .before .before .before .before .before .before .i .given .0 .0
+    in
+    let b = on
+    (c .before .before .before .before .before .before .before .before .before .before .before .before .before .before .before .before .before .before .before .before .before .before .before .before .before)
+    in
+    let g = ranged
+    (c .before .before .before .before .before .before .before .before .before .before .before .before .before .before .before .before .before .before .before .before .before .before .before)
+    in
     let l = exact (c .before .before .before .before .before .before .before .before .before .before .before .before .before) in
     let q = padded (c .before .before .before .before .before .before .before .before .before .before .before) in
     let w = c .before .before .before .before .before .before .before .write-band in

@@ -26,4 +26,5 @@ returns-2 c = found-nowhere (c .before .loop .inv) (omega arith)
 pub free-place-spec : {M : Type 1} → statement M
 free-place-spec =
     tie.close
-    (tie.spec Inv-loop μ-loop (λ c. search-starts (search needs)) (λ c. search needs) (λ c. search needs) returns (λ c. omega arith) (λ c. omega arith) loop-again returns-2)
+    (tie.spec Inv-loop μ-loop (λ c. search-starts (search needs)) (λ c. search needs) (λ c. search needs) returns (λ c. omega arith) (λ c. omega
+    arith) loop-again returns-2)

@@ -20,10 +20,14 @@ returns : tie.Need-returns Inv-loop μ-loop
 returns c = all-failed (c .before .before .before .before .loop .inv) noPage (omega arith) (sym (c .before .lawful-page .ensures) ∙ not-true _ (c .if1 .taken))
 
 loop-again : tie.Need-loop-again Inv-loop μ-loop
-loop-again c = all-passed (c .before .before .before .before .loop .inv) noPage (omega arith) (sym (c .before .lawful-page .ensures) ∙ not-false _ (c .if1 .left))
+loop-again c =
+    all-passed (c .before .before .before .before .loop .inv) noPage (omega arith) (sym (c .before .lawful-page .ensures) ∙ not-false _
+    (c .if1 .left))
 
 returns-2 : tie.Need-returns-2 Inv-loop μ-loop
 returns-2 c = all-end (c .before .loop .inv) (omega arith)
 
 pub all-pages-spec : {M : Type 1} → statement M
-all-pages-spec = tie.close (tie.spec Inv-loop μ-loop (λ c. left-starts {i = 0} (search needs)) (λ c. search needs) (λ c. search needs) (λ c κs. search needs) returns (λ c. omega arith) (λ c. omega arith) loop-again returns-2)
+all-pages-spec =
+    tie.close (tie.spec Inv-loop μ-loop (λ c. left-starts {i = 0} (search needs)) (λ c. search needs) (λ c. search needs) (λ c κs. search needs)
+    returns (λ c. omega arith) (λ c. omega arith) loop-again returns-2)

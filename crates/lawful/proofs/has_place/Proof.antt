@@ -26,4 +26,6 @@ returns-2 : tie.Need-returns-2 Inv-loop μ-loop
 returns-2 c = any-end (c .before .loop .inv) (omega arith)
 
 pub has-place-spec : {M : Type 1} → statement M
-has-place-spec = tie.close (tie.spec Inv-loop μ-loop (λ c. left-starts (search needs)) (λ c. search needs) (λ c. search needs) (λ c κs. search needs) returns (λ c. omega arith) (λ c. omega arith) loop-again returns-2)
+has-place-spec =
+    tie.close (tie.spec Inv-loop μ-loop (λ c. left-starts (search needs)) (λ c. search needs) (λ c. search needs) (λ c κs. search needs) returns (λ c.
+    omega arith) (λ c. omega arith) loop-again returns-2)

@@ -16,15 +16,37 @@ returns-2 c = rw (ne-eqb _ _ (c .before .before .if1 .left), lt-leb _ _ (c .if2 
 
 returns-3 : tie.Need-returns-3
 unfolding lawfulPlace
-returns-3 c = rw (ne-eqb _ _ (c .before .before .before .before .if1 .left), le-leb _ _ (c .before .before .if2 .left), sym (c .before .lawful-key .ensures) ∙ not-true _ (c .if3 .taken))
+returns-3 c =
+    rw (
+      ne-eqb _ _ (c .before .before .before .before .if1 .left),
+      le-leb _ _ (c .before .before .if2 .left),
+      sym (c .before .lawful-key .ensures) ∙
+          not-true _ (c .if3 .taken),
+    )
 
 returns-4 : tie.Need-returns-4
 unfolding lawfulPlace
-returns-4 c = rw (ne-eqb _ _ (c .before .before .before .before .before .before .before .before .before .if1 .left), le-leb _ _ (c .before .before .before .before .before .before .before .if2 .left), sym (c .before .before .before .before .before .before .lawful-key .ensures) ∙ not-false _ (c .before .before .before .before .before .if3 .left), eq-eqb _ _ (c .before .before .if4 .taken)) (c .low-indexes .ensures)
+returns-4 c =
+    rw (
+      ne-eqb _ _ (c .before .before .before .before .before .before .before .before .before .if1 .left),
+      le-leb _ _
+          (c .before .before .before .before .before .before .before .if2 .left),
+      sym
+          (c .before .before .before .before .before .before .lawful-key .ensures) ∙ not-false _ (c .before .before .before .before .before .if3 .left),
+      eq-eqb _ _ (c .before .before .if4 .taken),
+    ) (c .low-indexes .ensures)
 
 returns-5 : tie.Need-returns-5
 unfolding lawfulPlace
-returns-5 c = rw (ne-eqb _ _ (c .before .before .before .before .before .before .before .before .before .if1 .left), le-leb _ _ (c .before .before .before .before .before .before .before .if2 .left), sym (c .before .before .before .before .before .before .lawful-key .ensures) ∙ not-false _ (c .before .before .before .before .before .if3 .left), ne-eqb _ _ (c .before .before .if4 .left)) (c .zero-from .ensures)
+returns-5 c =
+    rw (
+      ne-eqb _ _ (c .before .before .before .before .before .before .before .before .before .if1 .left),
+      le-leb _ _
+          (c .before .before .before .before .before .before .before .if2 .left),
+      sym
+          (c .before .before .before .before .before .before .lawful-key .ensures) ∙ not-false _ (c .before .before .before .before .before .if3 .left),
+      ne-eqb _ _ (c .before .before .if4 .left),
+    ) (c .zero-from .ensures)
 
 pub lawful-place-spec : {M : Type 1} → statement M
 lawful-place-spec =

@@ -30,4 +30,6 @@ returns-2 : tie.Need-returns-2 Inv-loop μ-loop
 returns-2 c = all-end (c .before .loop .inv) (omega arith)
 
 pub low-indexes-spec : {M : Type 1} → statement M
-low-indexes-spec = tie.close (tie.spec Inv-loop μ-loop (λ c. left-starts {i = 0} refl) (λ c. omega arith) returns (λ c. omega arith) (λ c. omega arith) loop-again returns-2)
+low-indexes-spec =
+    tie.close (tie.spec Inv-loop μ-loop (λ c. left-starts {i = 0} refl) (λ c. omega arith) returns (λ c. omega arith) (λ c. omega arith) loop-again
+    returns-2)

@@ -21,7 +21,8 @@ returns-2 c =
     let a = c .before .before .before .before .before .before .args in
     let n = c .before .before .before .before .row-bytes in
     let p = c .before .before .row-padded in
-    rw (padded-front (a .width) _ (a .last .now) _ (n .ensures) (omega arith) (p .ensures) ∙ not-false _ (c .before .if1 .left), ← n .ensures) (c .zero-from .ensures)
+    rw (padded-front (a .width) _ (a .last .now) _ (n .ensures) (omega arith) (p .ensures) ∙ not-false _ (c .before .if1 .left), ← n .ensures)
+    (c .zero-from .ensures)
 
 pub no-stray-spec : {M : Type 1} → statement M
 no-stray-spec =

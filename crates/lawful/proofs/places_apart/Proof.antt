@@ -25,4 +25,6 @@ returns-2 : tie.Need-returns-2 Inv-loop μ-loop
 returns-2 c = apart-end (c .before .loop .inv) (omega arith)
 
 pub places-apart-spec : {M : Type 1} → statement M
-places-apart-spec = tie.close (tie.spec Inv-loop μ-loop (λ c. left-starts {i = 0} (search needs)) (λ c κs. omega arith) returns (λ c. omega arith) (λ c. omega arith) loop-again returns-2)
+places-apart-spec =
+    tie.close (tie.spec Inv-loop μ-loop (λ c. left-starts {i = 0} (search needs)) (λ c κs. omega arith) returns (λ c. omega arith) (λ c. omega arith)
+    loop-again returns-2)

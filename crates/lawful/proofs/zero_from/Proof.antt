@@ -30,4 +30,5 @@ returns-2 : tie.Need-returns-2 Inv-loop μ-loop
 returns-2 c = all-end (c .before .loop .inv) (omega arith)
 
 pub zero-from-spec : {M : Type 1} → statement M
-zero-from-spec = tie.close (tie.spec Inv-loop μ-loop (λ c. left-starts refl) (λ c. omega arith) returns (λ c. omega arith) (λ c. omega arith) loop-again returns-2)
+zero-from-spec =
+    tie.close (tie.spec Inv-loop μ-loop (λ c. left-starts refl) (λ c. omega arith) returns (λ c. omega arith) (λ c. omega arith) loop-again returns-2)
