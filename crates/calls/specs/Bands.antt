@@ -17,11 +17,11 @@ use Rattle.desk.specs.declared.Desk.{Desk}
 use Rattle.desk.specs.declared.Found.{Found}
 use Rattle.desk.specs.declared.Found.the-variants.{At, Nothing}
 use Rattle.desk.specs.Places.{noPage, pageFound, pageAt, isFound}
-use Rattle.desk.specs.Lawful.{within, lawfulKey, lawful}
+use Rattle.desk.specs.Lawful.{within, lawful}
 use Rattle.desk.specs.OpenPages.{OpenPage, open-page}
 use Rattle.desk.specs.Refusals.{refusal}
 use Rattle.desk.specs.Calls.{refused, done, bandOf, writeTests, servedPage, bandDesk, writeSpec, writeLent}
-use Rattle.calls.specs.Refusing.{early, given-lawful, Begun, begun, early-keeps, at-early, at-size, at-none, at-other-way, at-pels, at-padding, at-room, at-end, refuses, keeps, clears}
+use Rattle.calls.specs.Refusing.{FirstTwo, Begun, begun, early-keeps, at-early, at-size, at-none, at-other-way, at-pels, at-padding, at-room, at-end, refuses, keeps, clears}
 
 -- the page after a band: its table and last row
 unfoldable pub pageAfter : Page → Table → List ℕ → Page
@@ -40,10 +40,7 @@ by-room false a b r e p q = sym (ap (λ (x : Wrote). x .room) e ∙ q)
 
 -- ---- the number: n is that of the first two tests
 module _ (d : Desk) (ask : Ask) (pels out : List ℕ) where
-  module _ (good : Bool) (n : ℕ) (p : good ≡ lawful d) (e : n ≡ early (not good) (not (lawfulKey (ask .key .school) (ask .key .class)))) where
-    first : n ≡ early (not (lawful d)) (not (lawfulKey (ask .key .school) (ask .key .class)))
-    first = given-lawful good (lawful d) (not (lawfulKey (ask .key .school) (ask .key .class))) n p e
-
+  module _ (n : ℕ) (first : FirstTwo d (ask .key) n) where
     pub write-early : (n ≡ 0 → ⊥) → refusal (writeTests d ask pels out) ≡ n
     unfolding writeTests
     write-early h = at-early (writeTests d ask pels out) n first h

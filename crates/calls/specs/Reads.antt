@@ -20,12 +20,12 @@ use Rattle.desk.specs.declared.Outcome.{Outcome}
 use Rattle.desk.specs.declared.Found.{Found}
 use Rattle.desk.specs.declared.Found.the-variants.{At, Nothing}
 use Rattle.desk.specs.Places.{noPage, pageFound, pageAt, isFound}
-use Rattle.desk.specs.Lawful.{within, lawfulKey, lawful}
+use Rattle.desk.specs.Lawful.{within, lawful}
 use Rattle.desk.specs.OpenPages.{OpenPage, open-page}
 use Rattle.desk.specs.Refusals.{refusal, lentAfter}
 use Rattle.desk.specs.Calls.{refused, done, bandOf, readTests, servedPage, bandDesk, readSpec, readLent, ReadOutcome}
 use Rattle.calls.specs.Bands.{pageAfter}
-use Rattle.calls.specs.Refusing.{early, given-lawful, Begun, begun, early-keeps, at-early, at-size, at-none, at-other-way, at-room, at-end, refuses, keeps, clears}
+use Rattle.calls.specs.Refusing.{FirstTwo, Begun, begun, early-keeps, at-early, at-size, at-none, at-other-way, at-room, at-end, refuses, keeps, clears}
 
 -- by what reading gives: no room, damaged, or the page served
 unfoldable pub readFound : Desk → ℕ → Page → Read → Outcome
@@ -59,10 +59,7 @@ or-false a b e = rw e
 
 -- ---- the number: n is that of the first two tests
 module _ (d : Desk) (ask : Ask) (code out : List ℕ) where
-  module _ (good : Bool) (n : ℕ) (p : good ≡ lawful d) (e : n ≡ early (not good) (not (lawfulKey (ask .key .school) (ask .key .class)))) where
-    first : n ≡ early (not (lawful d)) (not (lawfulKey (ask .key .school) (ask .key .class)))
-    first = given-lawful good (lawful d) (not (lawfulKey (ask .key .school) (ask .key .class))) n p e
-
+  module _ (n : ℕ) (first : FirstTwo d (ask .key) n) where
     pub read-early : (n ≡ 0 → ⊥) → refusal (readTests d ask code out) ≡ n
     unfolding readTests
     read-early h = at-early (readTests d ask code out) n first h

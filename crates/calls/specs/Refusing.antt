@@ -6,8 +6,10 @@ use mathlib.Core.Bool.{Bool, true, false, not}
 use mathlib.Core.List.{List}
 use borrow.Author.Tests.{ne-eqb}
 use Rattle.store.specs.Store.{cleared}
+use Rattle.desk.specs.declared.Key.{Key}
 use Rattle.desk.specs.declared.Desk.{Desk}
 use Rattle.desk.specs.declared.Outcome.{Outcome}
+use Rattle.desk.specs.Lawful.{lawfulKey, lawful}
 use Rattle.desk.specs.Refusals.{Tests, refusal, refuse, lentAfter}
 use Rattle.desk.specs.Calls.{refused, unless, unlessLent}
 
@@ -15,9 +17,13 @@ use Rattle.desk.specs.Calls.{refused, unless, unlessLent}
 abbrev pub early : Bool → Bool → ℕ
 early unlawful key = refuse unlawful 12 (refuse key 1 0)
 
+-- n is what they give for that desk and key
+abbrev pub FirstTwo : Desk → Key → ℕ → Type 0
+FirstTwo d k n = n ≡ early (not (lawful d)) (not (lawfulKey (k .school) (k .class)))
+
 -- whether the desk is lawful, as it was given
-pub given-lawful : (good law key : Bool) (n : ℕ) → good ≡ law → n ≡ early (not good) key → n ≡ early (not law) key
-given-lawful good law key n p e = e ∙ ap (λ (g : Bool). early (not g) key) p
+pub first-two : (d : Desk) (k : Key) (good : Bool) (n : ℕ) → good ≡ lawful d → n ≡ early (not good) (not (lawfulKey (k .school) (k .class))) → FirstTwo d k n
+first-two d k good n p e = e ∙ ap (λ (g : Bool). early (not g) (not (lawfulKey (k .school) (k .class)))) p
 
 module _ (t : Tests) where
   -- what every call has passed that goes on

@@ -1,12 +1,22 @@
 -- Abandon answers and leaves the desk as document 01 says. Assumes nothing.
-use mathlib.Core.Path.{sym, ap, _∙_}
+use mathlib.Core.Path.{_≡_, sym, ap, _∙_}
 use Prim.Native.Nat.{_<_}
 use native.Mathlib.Omega.{arith}
+use Rattle.calls.specs.Refusing.{FirstTwo, first-two}
 use Rattle.calls.specs.Leaving.{leave-early, leave-none, leave-none-not, abandon-refused, abandon-done, abandons-taught, abandons-new}
-use Rattle.desk.specs.Places.{isFound}
+use Rattle.desk.specs.declared.Found.the-variants.{At}
+use Rattle.desk.specs.Places.{isFound, pageFound}
 use borrow.Author.Needs.{needs}
 use Rattle.calls.proofs.abandon_when.Statement.{statement}
 use Rattle.calls.proofs.abandon_when.Tie as tie
+
+-- the first two tests, of this desk and key
+asked : (c : tie.After-early-refusal) → let a = c .before .args in FirstTwo (a .d) (a .key) (c .early-refusal .result)
+asked c = let a = c .before .args in first-two (a .d) (a .key) (a .good) (c .early-refusal .result) (c .before .pre) (c .early-refusal .ensures)
+
+-- where it was found
+slot : (c : tie.After-known-told) → let a = c .before .before .before .before .before .before .before .args in pageFound (a .d) (a .key) ≡ At (c .before .i .given .0 .0)
+slot c = sym (c .before .before .before .find-page .ensures .0) ∙ c .before .i .given .1
 
 -- what was found is within
 within : (c : tie.After-known-told) → c .before .i .given .0 .0 < 4
@@ -17,14 +27,14 @@ returns c =
     let a = c .before .before .before .args in
     let r = c .before .before .early-refusal in
     c .refused .ensures ∙ abandon-refused (a .d) (a .key) (r .result)
-    (leave-early (a .d) (a .key) (a .good) (r .result) (c .before .before .before .pre) (r .ensures) (c .before .if1 .taken)) (c .before .if1 .taken)
+    (leave-early (a .d) (a .key) (r .result) (asked (c .before .before)) (c .before .if1 .taken)) (c .before .if1 .taken)
 
 returns-2 : tie.Need-returns-2
 returns-2 c =
     let a = c .before .before .before .before .before .before .before .args in
     let r = c .before .before .before .before .before .before .early-refusal in
-    c .refused2 .ensures ∙ abandon-refused (a .d) (a .key) 2 (leave-none (a .d) (a .key) (a .good) (r .result)
-    (c .before .before .before .before .before .before .before .pre) (r .ensures) (c .before .before .before .before .before .if1 .left)
+    c .refused2 .ensures ∙ abandon-refused (a .d) (a .key) 2 (leave-none (a .d) (a .key) (r .result) (asked
+    (c .before .before .before .before .before .before)) (c .before .before .before .before .before .if1 .left)
     (sym (c .before .before .before .find-page .ensures .0) ∙ c .before .enum-told .given .1)) (λ z. omega arith)
 
 mul-unused : tie.Need-mul-unused
@@ -38,16 +48,14 @@ returns-3 c =
     let a = c .before .before .before .before .before .before .before .before .before .before .before .before .before .args in
     let r = c .before .before .before .before .before .before .before .before .before .before .before .before .early-refusal in
     c .done .ensures
-    ∙ abandon-done (a .d) (a .key) _ (leave-none-not (a .d) (a .key) (a .good) (r .result)
-    (c .before .before .before .before .before .before .before .before .before .before .before .before .before .pre) (r .ensures)
+    ∙ abandon-done (a .d) (a .key) _ (leave-none-not (a .d) (a .key) (r .result) (asked
+    (c .before .before .before .before .before .before .before .before .before .before .before .before))
     (c .before .before .before .before .before .before .before .before .before .before .before .if1 .left)
     (c .before .before .before .before .before .before .before .i .given .0 .0)
-    (sym (c .before .before .before .before .before .before .before .before .before .find-page .ensures .0)
-    ∙ c .before .before .before .before .before .before .before .i .given .1))
+    (slot (c .before .before .before .before .before .before)))
     (abandons-taught (a .d) (a .key) (c .before .before .before .before .before .before .before .i .given .0 .0)
     (c .before .before .before .before .unused-page .result)
-    (sym (c .before .before .before .before .before .before .before .before .before .find-page .ensures .0)
-    ∙ c .before .before .before .before .before .before .before .i .given .1)
+    (slot (c .before .before .before .before .before .before))
     (ap isFound (sym (c .before .before .before .find-table .ensures .0)) ∙ sym (c .before .before .is-found .ensures) ∙ c .before .if2 .taken)
     (c .before .before .before .before .unused-page .ensures))
 
@@ -62,17 +70,15 @@ returns-4 c =
     let a = c .before .before .before .before .before .before .before .before .before .before .before .before .before .before .before .before .args in
     let r = c .before .before .before .before .before .before .before .before .before .before .before .before .before .before .before .early-refusal in
     c .done2 .ensures
-    ∙ abandon-done (a .d) (a .key) _ (leave-none-not (a .d) (a .key) (a .good) (r .result)
-    (c .before .before .before .before .before .before .before .before .before .before .before .before .before .before .before .before .pre) (r .ensures)
+    ∙ abandon-done (a .d) (a .key) _ (leave-none-not (a .d) (a .key) (r .result) (asked
+    (c .before .before .before .before .before .before .before .before .before .before .before .before .before .before .before))
     (c .before .before .before .before .before .before .before .before .before .before .before .before .before .before .if1 .left)
     (c .before .before .before .before .before .before .before .before .before .before .i .given .0 .0)
-    (sym (c .before .before .before .before .before .before .before .before .before .before .before .before .find-page .ensures .0)
-    ∙ c .before .before .before .before .before .before .before .before .before .before .i .given .1))
+    (slot (c .before .before .before .before .before .before .before .before .before)))
     (abandons-new (a .d) (a .key) (c .before .before .before .before .before .before .before .before .before .before .i .given .0 .0)
     (c .before .before .find-place .result) (c .before .before .before .vacant-place .result) (c .before .with-place .result)
     (c .before .before .before .before .before .before .before .unused-page .result)
-    (sym (c .before .before .before .before .before .before .before .before .before .before .before .before .find-page .ensures .0)
-    ∙ c .before .before .before .before .before .before .before .before .before .before .i .given .1)
+    (slot (c .before .before .before .before .before .before .before .before .before))
     (ap isFound (sym (c .before .before .before .before .before .before .find-table .ensures .0)) ∙ sym
     (c .before .before .before .before .before .is-found .ensures)
     ∙ c .before .before .before .before .if2 .left)

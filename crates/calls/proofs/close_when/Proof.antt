@@ -1,11 +1,22 @@
 -- Close answers and leaves the desk as document 01 says. Assumes nothing.
-use mathlib.Core.Path.{sym, _∙_}
+use mathlib.Core.Path.{_≡_, sym, _∙_}
 use Prim.Native.Nat.{_<_}
 use native.Mathlib.Omega.{arith}
+use Rattle.desk.specs.declared.Found.the-variants.{At}
+use Rattle.desk.specs.Places.{pageFound}
+use Rattle.calls.specs.Refusing.{FirstTwo, first-two}
 use Rattle.calls.specs.Leaving.{leave-early, leave-none, leave-none-not, close-refused, close-done, closes}
 use borrow.Author.Needs.{needs}
 use Rattle.calls.proofs.close_when.Statement.{statement}
 use Rattle.calls.proofs.close_when.Tie as tie
+
+-- the first two tests, of this desk and key
+asked : (c : tie.After-early-refusal) → let a = c .before .args in FirstTwo (a .d) (a .key) (c .early-refusal .result)
+asked c = let a = c .before .args in first-two (a .d) (a .key) (a .good) (c .early-refusal .result) (c .before .pre) (c .early-refusal .ensures)
+
+-- where it was found
+slot : (c : tie.After-known-told) → let a = c .before .before .before .before .before .before .before .args in pageFound (a .d) (a .key) ≡ At (c .before .i .given .0 .0)
+slot c = sym (c .before .before .before .find-page .ensures .0) ∙ c .before .i .given .1
 
 -- what was found is within
 within : (c : tie.After-known-told) → c .before .i .given .0 .0 < 4
@@ -16,14 +27,14 @@ returns c =
     let a = c .before .before .before .args in
     let r = c .before .before .early-refusal in
     c .refused .ensures ∙ close-refused (a .d) (a .key) (r .result)
-    (leave-early (a .d) (a .key) (a .good) (r .result) (c .before .before .before .pre) (r .ensures) (c .before .if1 .taken)) (c .before .if1 .taken)
+    (leave-early (a .d) (a .key) (r .result) (asked (c .before .before)) (c .before .if1 .taken)) (c .before .if1 .taken)
 
 returns-2 : tie.Need-returns-2
 returns-2 c =
     let a = c .before .before .before .before .before .before .before .args in
     let r = c .before .before .before .before .before .before .early-refusal in
-    c .refused2 .ensures ∙ close-refused (a .d) (a .key) 2 (leave-none (a .d) (a .key) (a .good) (r .result)
-    (c .before .before .before .before .before .before .before .pre) (r .ensures) (c .before .before .before .before .before .if1 .left)
+    c .refused2 .ensures ∙ close-refused (a .d) (a .key) 2 (leave-none (a .d) (a .key) (r .result) (asked
+    (c .before .before .before .before .before .before)) (c .before .before .before .before .before .if1 .left)
     (sym (c .before .before .before .find-page .ensures .0) ∙ c .before .enum-told .given .1)) (λ z. omega arith)
 
 mul-page : tie.Need-mul-page
@@ -43,17 +54,15 @@ returns-3 c =
     let a = c .before .before .before .before .before .before .before .before .before .before .before .before .before .before .args in
     let r = c .before .before .before .before .before .before .before .before .before .before .before .before .before .early-refusal in
     c .done .ensures
-    ∙ close-done (a .d) (a .key) _ (leave-none-not (a .d) (a .key) (a .good) (r .result)
-    (c .before .before .before .before .before .before .before .before .before .before .before .before .before .before .pre) (r .ensures)
+    ∙ close-done (a .d) (a .key) _ (leave-none-not (a .d) (a .key) (r .result) (asked
+    (c .before .before .before .before .before .before .before .before .before .before .before .before .before))
     (c .before .before .before .before .before .before .before .before .before .before .before .before .if1 .left)
     (c .before .before .before .before .before .before .before .before .i .given .0 .0)
-    (sym (c .before .before .before .before .before .before .before .before .before .before .find-page .ensures .0)
-    ∙ c .before .before .before .before .before .before .before .before .i .given .1))
+    (slot (c .before .before .before .before .before .before .before)))
     (closes (a .d) (a .key) (c .before .before .before .before .before .before .before .before .i .given .0 .0)
     (c .before .before .before .before .before .find-place .result) (c .before .before .learned-place .result) (c .before .with-place .result)
-    (c .before .before .before .unused-page .result) (sym
-    (c .before .before .before .before .before .before .before .before .before .before .find-page .ensures .0)
-    ∙ c .before .before .before .before .before .before .before .before .i .given .1) (c .before .before .before .before .before .find-place .ensures .0)
+    (c .before .before .before .unused-page .result) (slot (c .before .before .before .before .before .before .before))
+    (c .before .before .before .before .before .find-place .ensures .0)
     (c .before .before .learned-place .ensures) (c .before .with-place .ensures) (c .before .before .before .unused-page .ensures))
 
 pub close-when-spec : {M : Type 1} → statement M

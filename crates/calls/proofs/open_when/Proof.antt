@@ -1,13 +1,25 @@
 -- Open answers and leaves the desk as document 01 says. Assumes nothing.
-use mathlib.Core.Path.{refl, sym, ap, _∙_}
+use mathlib.Core.Path.{_≡_, refl, sym, ap, _∙_}
 use Prim.Native.Nat.{_<_}
 use native.Mathlib.Omega.{arith}
 use borrow.Author.Tests.{not-true, not-false}
-use Rattle.desk.specs.Places.{isFound}
+use Rattle.desk.specs.declared.Found.the-variants.{At}
+use Rattle.desk.specs.Places.{isFound, freePageFound}
+use Rattle.calls.specs.Refusing.{FirstTwo, first-two}
 use Rattle.calls.specs.Opening.{open-early, open-size, open-opened, open-pages, open-taught, open-left, open-refused}
 use borrow.Author.Needs.{needs}
 use Rattle.calls.proofs.open_when.Statement.{statement}
 use Rattle.calls.proofs.open_when.Tie as tie
+
+-- the first two tests, of this desk and key
+asked : (c : tie.After-early-refusal) → let a = c .before .before .args in FirstTwo (a .d) (a .ask .key) (c .early-refusal .result)
+asked c =
+    let a = c .before .before .args in first-two (a .d) (a .ask .key) (a .good) (c .early-refusal .result) (c .before .before .pre)
+    (c .early-refusal .ensures)
+
+-- where it was found
+slot : (c : tie.After-known-told) → let a = c .before .before .before .before .before .before .before .before .before .before .before .before .before .args in freePageFound (a .d) ≡ At (c .before .i .given .0 .0)
+slot c = sym (c .before .before .before .free-page .ensures .0) ∙ c .before .i .given .1
 
 -- what was found is within
 slot-within : (c : tie.After-known-told) → c .before .i .given .0 .0 < 4
@@ -22,16 +34,15 @@ returns c =
     let a = c .before .before .before .before .args in
     let r = c .before .before .early-refusal in
     c .refused .ensures ∙ open-refused (a .d) (a .ask) (r .result)
-    (open-early (a .d) (a .ask) (a .good) (r .result) (c .before .before .before .before .pre) (r .ensures) (c .before .if1 .taken)) (c .before .if1 .taken)
+    (open-early (a .d) (a .ask) (r .result) (asked (c .before .before)) (c .before .if1 .taken)) (c .before .if1 .taken)
 
 returns-2 : tie.Need-returns-2
 returns-2 c =
     let a = c .before .before .before .before .before .before .args in
     let w = sym (c .before .before .in-range .ensures) ∙ not-true (c .before .before .in-range .result) (c .before .if2 .taken) in
     let r = c .before .before .before .before .early-refusal in
-    c .refused2 .ensures ∙ open-refused (a .d) (a .ask) 6 (open-size (a .d) (a .ask) (a .good) (r .result)
-    (c .before .before .before .before .before .before .pre)
-    (r .ensures) (c .before .before .before .if1 .left) w) (λ z. omega arith)
+    c .refused2 .ensures ∙ open-refused (a .d) (a .ask) 6 (open-size (a .d) (a .ask) (r .result) (asked (c .before .before .before .before))
+    (c .before .before .before .if1 .left) w) (λ z. omega arith)
 
 returns-3 : tie.Need-returns-3
 returns-3 c =
@@ -41,8 +52,8 @@ returns-3 c =
     (c .before .before .before .before .before .if2 .left) in
     let o = ap isFound (sym (c .before .before .before .find-page .ensures .0)) ∙ sym (c .before .before .is-found .ensures) ∙ c .before .if3 .taken in
     let r = c .before .before .before .before .before .before .before .before .early-refusal in
-    c .refused3 .ensures ∙ open-refused (a .d) (a .ask) 3 (open-opened (a .d) (a .ask) (a .good) (r .result)
-    (c .before .before .before .before .before .before .before .before .before .before .pre) (r .ensures)
+    c .refused3 .ensures ∙ open-refused (a .d) (a .ask) 3 (open-opened (a .d) (a .ask) (r .result) (asked
+    (c .before .before .before .before .before .before .before .before))
     (c .before .before .before .before .before .before .before .if1 .left) w o) (λ z. omega arith)
 
 returns-4 : tie.Need-returns-4
@@ -54,8 +65,8 @@ returns-4 c =
     let o = ap isFound (sym (c .before .before .before .before .before .before .find-page .ensures .0)) ∙ sym
     (c .before .before .before .before .before .is-found .ensures) ∙ c .before .before .before .before .if3 .left in
     let r = c .before .before .before .before .before .before .before .before .before .before .before .early-refusal in
-    c .refused4 .ensures ∙ open-refused (a .d) (a .ask) 4 (open-pages (a .d) (a .ask) (a .good) (r .result)
-    (c .before .before .before .before .before .before .before .before .before .before .before .before .before .pre) (r .ensures)
+    c .refused4 .ensures ∙ open-refused (a .d) (a .ask) 4 (open-pages (a .d) (a .ask) (r .result) (asked
+    (c .before .before .before .before .before .before .before .before .before .before .before))
     (c .before .before .before .before .before .before .before .before .before .before .if1 .left) w o
     (sym (c .before .before .before .free-page .ensures .0) ∙ c .before .enum-told .given .1)) (λ z. omega arith)
 
@@ -67,8 +78,7 @@ returns-5 c =
     let a =
     c .before .before .before .before .before .before .before .before .before .before .before .before .before .before .before .before .before .before .args
     in
-    let f = sym (c .before .before .before .before .before .before .before .before .free-page .ensures .0)
-    ∙ c .before .before .before .before .before .before .i .given .1 in
+    let f = slot (c .before .before .before .before .before) in
     let i = c .before .before .before .before .before .before .i .given .0 .0 in
     let w = sym (c .before .before .before .before .before .before .before .before .before .before .before .before .before .before .in-range .ensures)
     ∙ not-false
@@ -78,9 +88,8 @@ returns-5 c =
     (c .before .before .before .before .before .before .before .before .before .before .is-found .ensures)
     ∙ c .before .before .before .before .before .before .before .before .before .if3 .left in
     let r = c .before .before .before .before .before .before .before .before .before .before .before .before .before .before .before .before .early-refusal in
-    c .open-new .ensures ∙ open-left (a .d) (a .ask) (a .good) (r .result)
-    (c .before .before .before .before .before .before .before .before .before .before .before .before .before .before .before .before .before .before .pre)
-    (r .ensures)
+    c .open-new .ensures ∙ open-left (a .d) (a .ask) (r .result) (asked
+    (c .before .before .before .before .before .before .before .before .before .before .before .before .before .before .before .before))
     (c .before .before .before .before .before .before .before .before .before .before .before .before .before .before .before .if1 .left) w o i f
     (sym (c .before .before .before .find-table .ensures .0) ∙ c .before .enum-told2 .given .1)
 
@@ -101,8 +110,7 @@ returns-6 c =
     let a =
     c .before .before .before .before .before .before .before .before .before .before .before .before .before .before .before .before .before .before .before .before .before .args
     in
-    let f = sym (c .before .before .before .before .before .before .before .before .before .before .before .free-page .ensures .0)
-    ∙ c .before .before .before .before .before .before .before .before .before .i .given .1 in
+    let f = slot (c .before .before .before .before .before .before .before .before) in
     let i = c .before .before .before .before .before .before .before .before .before .i .given .0 .0 in
     let w = sym
     (c .before .before .before .before .before .before .before .before .before .before .before .before .before .before .before .before .before .in-range .ensures)
@@ -116,9 +124,8 @@ returns-6 c =
     let r =
     c .before .before .before .before .before .before .before .before .before .before .before .before .before .before .before .before .before .before .before .early-refusal
     in
-    c .done .ensures ∙ open-taught (a .d) (a .ask) (a .good) (r .result)
-    (c .before .before .before .before .before .before .before .before .before .before .before .before .before .before .before .before .before .before .before .before .before .pre)
-    (r .ensures)
+    c .done .ensures ∙ open-taught (a .d) (a .ask) (r .result) (asked
+    (c .before .before .before .before .before .before .before .before .before .before .before .before .before .before .before .before .before .before .before))
     (c .before .before .before .before .before .before .before .before .before .before .before .before .before .before .before .before .before .before .if1 .left)
     w o i f (c .before .before .before .before .j .given .0 .0) _ (c .before .page-from .result) (sym
     (c .before .before .before .before .before .before .find-table .ensures .0) ∙ c .before .before .before .before .j .given .1) refl

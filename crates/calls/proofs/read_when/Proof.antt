@@ -11,18 +11,28 @@ use Rattle.desk.specs.Places.{noPage, pageFound}
 use Rattle.desk.specs.Lawful.{within}
 use Rattle.desk.specs.OpenPages.{OpenPage, within-both}
 use Rattle.desk.specs.Calls.{readTests}
-use Rattle.calls.specs.Refusing.{Begun}
+use Rattle.calls.specs.Refusing.{FirstTwo, first-two, Begun}
 use Rattle.calls.specs.Reads.{read-early, read-early-keeps, read-begun, opened-page, read-rows, read-long, read-none, read-other-way, read-room, read-end, read-refused, read-answers}
 use borrow.Author.Needs.{needs}
 use Rattle.calls.proofs.read_when.Statement.{statement}
 use Rattle.calls.proofs.read_when.Tie as tie
+
+-- the first two tests, of this desk and key
+asked : (c : tie.After-early-refusal) → let a = c .before .before .before .before .args in FirstTwo (a .d) (a .ask .key) (c .early-refusal .result)
+asked c =
+    let a = c .before .before .before .before .args in first-two (a .d) (a .ask .key) (a .good) (c .early-refusal .result)
+    (c .before .before .before .before .pre) (c .early-refusal .ensures)
+
+-- where it was found
+slot : (c : tie.After-known-told) → let a = c .before .before .before .before .before .before .before .before .before .before .before .before .before .args in pageFound (a .d) (a .ask .key) ≡ At (c .before .i .given .0 .0)
+slot c = sym (c .before .before .before .find-page .ensures .0) ∙ c .before .i .given .1
 
 -- past the first two tests
 on : (c : tie.Else1) → let a = c .before .before .before .before .before .args in Begun (readTests (a .d) (a .ask) (a .code .now) (a .out .now))
 on c =
     let a = c .before .before .before .before .before .args in
     let r = c .before .early-refusal in
-    read-begun (a .d) (a .ask) (a .code .now) (a .out .now) (a .good) (r .result) (c .before .before .before .before .before .pre) (r .ensures) (c .if1 .left)
+    read-begun (a .d) (a .ask) (a .code .now) (a .out .now) (r .result) (asked (c .before)) (c .if1 .left)
 
 ranged : (c : tie.Else2) → within 1 (c .before .before .before .before .before .before .before .args .ask .rows) maxRows ≡ true
 ranged c = sym (c .before .in-range .ensures) ∙ not-false (c .before .in-range .result) (c .if2 .left)
@@ -34,24 +44,20 @@ ranged-by c = within-both 1 (c .before .before .before .before .before .before .
 slot-within : (c : tie.After-known-told) → c .before .i .given .0 .0 < 4
 slot-within c = rw (c .before .i .given .1) at (c .before .before .before .find-page .ensures .1)
 
-at-slot : (c : tie.After-known-told) → let a = c .before .before .before .before .before .before .before .before .before .before .before .before .before .args in pageFound (a .d) (a .ask .key) ≡ At (c .before .i .given .0 .0)
-at-slot c = sym (c .before .before .before .find-page .ensures .0) ∙ c .before .i .given .1
-
 -- the open page of a lawful desk
 opened : (c : tie.After-known-told) → let a = c .before .before .before .before .before .before .before .before .before .before .before .before .before .args in OpenPage (getD (a .d .pages) (c .before .i .given .0 .0) noPage)
 opened c =
     let a = c .before .before .before .before .before .before .before .before .before .before .before .before .before .args in opened-page (a .d)
     (a .ask) (a .code .now) (a .out .now) (on (c .before .before .before .before .before .before .before .before)) (c .before .i .given .0 .0)
-    (at-slot c)
+    (slot c)
 
 returns : tie.Need-returns
 returns c =
     let a = c .before .before .before .before .before .before .args in
     let r = c .before .before .early-refusal in
     read-refused (a .d) (a .ask) (a .code .now) (a .out .now) (c .refused .result) (r .result) (c .refused .ensures)
-    (read-early (a .d) (a .ask) (a .code .now) (a .out .now) (a .good) (r .result) (c .before .before .before .before .before .before .pre)
-    (r .ensures) (c .before .if1 .taken)) (c .before .if1 .taken)
-    (read-early-keeps (a .d) (a .ask) (a .code .now) (a .out .now) (a .good) (r .result) (c .before .before .before .before .before .before .pre) (r .ensures))
+    (read-early (a .d) (a .ask) (a .code .now) (a .out .now) (r .result) (asked (c .before .before)) (c .before .if1 .taken)) (c .before .if1 .taken)
+    (read-early-keeps (a .d) (a .ask) (a .code .now) (a .out .now) (r .result) (asked (c .before .before)))
 
 returns-2 : tie.Need-returns-2
 returns-2 c =
@@ -91,7 +97,7 @@ returns-5 c =
     (c .before .before .before .before .before .before .before .before .before .before .before .before)) (ranged
     (c .before .before .before .before .before .before .before .before .before .before))
     (c .before .before .before .before .before .before .before .before .before .if3 .left) (c .before .before .before .before .before .i .given .0 .0)
-    (at-slot (c .before .before .before .before)) (c .before .if4 .taken))
+    (slot (c .before .before .before .before)) (c .before .if4 .taken))
     (λ z. omega arith) (λ z. omega arith, λ z. omega arith)
 
 read-band-requires : tie.Need-read-band-requires
@@ -114,7 +120,7 @@ returns-6 c =
     let g = ranged (c .before .before .before .before .before .before .before .before .before .before .before .before .before .before .before .before) in
     let l = c .before .before .before .before .before .before .before .before .before .before .before .before .before .before .before .if3 .left in
     let i = c .before .before .before .before .before .before .before .before .before .before .before .i .given .0 .0 in
-    let f = at-slot (c .before .before .before .before .before .before .before .before .before .before) in
+    let f = slot (c .before .before .before .before .before .before .before .before .before .before) in
     let w = c .before .before .before .before .before .before .before .if4 .left in
     let r = c .before .before .before .read-band in
     read-answers (a .d) (a .ask) (a .code .now) (a .out .now) i f (r .result) _ (c .read-found .result) (c .read-found .ensures) (r .ensures)

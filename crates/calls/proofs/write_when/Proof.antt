@@ -9,22 +9,33 @@ use lib.ListN.{getD, length}
 use borrow.Author.Tests.{not-true, not-false}
 use Rattle.template.specs.Pels.{rowBytes, bandPadded}
 use Rattle.band.specs.Band.{maxRows}
-use Rattle.desk.specs.Places.{noPage}
+use Rattle.desk.specs.declared.Found.the-variants.{At}
+use Rattle.desk.specs.Places.{noPage, pageFound}
 use Rattle.desk.specs.Lawful.{within}
 use Rattle.desk.specs.OpenPages.{OpenPage, within-both}
 use Rattle.desk.specs.Calls.{bandOf, writeTests}
-use Rattle.calls.specs.Refusing.{Begun}
+use Rattle.calls.specs.Refusing.{FirstTwo, first-two, Begun}
 use Rattle.calls.specs.Bands.{write-early, write-early-keeps, write-begun, write-page, write-size, write-none, write-other-way, write-pels, write-padding, write-room, write-end, write-refused, write-keeps, room-is, write-clears, write-done, write-lends}
 use borrow.Author.Needs.{needs}
 use Rattle.calls.proofs.write_when.Statement.{statement}
 use Rattle.calls.proofs.write_when.Tie as tie
+
+-- the first two tests, of this desk and key
+asked : (c : tie.After-early-refusal) → let a = c .before .before .before .before .args in FirstTwo (a .d) (a .ask .key) (c .early-refusal .result)
+asked c =
+    let a = c .before .before .before .before .args in first-two (a .d) (a .ask .key) (a .good) (c .early-refusal .result)
+    (c .before .before .before .before .pre) (c .early-refusal .ensures)
+
+-- where it was found
+slot : (c : tie.After-known-told) → let a = c .before .before .before .before .before .before .before .before .before .before .before .before .args in pageFound (a .d) (a .ask .key) ≡ At (c .before .i .given .0 .0)
+slot c = sym (c .before .before .before .find-page .ensures .0) ∙ c .before .i .given .1
 
 -- past the first two tests
 on : (c : tie.Else1) → let a = c .before .before .before .before .before .args in Begun (writeTests (a .d) (a .ask) (a .pels .now) (a .out .now))
 on c =
     let a = c .before .before .before .before .before .args in
     let r = c .before .early-refusal in
-    write-begun (a .d) (a .ask) (a .pels .now) (a .out .now) (a .good) (r .result) (c .before .before .before .before .before .pre) (r .ensures) (c .if1 .left)
+    write-begun (a .d) (a .ask) (a .pels .now) (a .out .now) (r .result) (asked (c .before)) (c .if1 .left)
 
 ranged : (c : tie.Else2) → within 1 (c .before .before .before .before .before .before .before .args .ask .rows) maxRows ≡ true
 ranged c = sym (c .before .in-range .ensures) ∙ not-false (c .before .in-range .result) (c .if2 .left)
@@ -42,7 +53,7 @@ opened : (c : tie.After-known-told) → let a = c .before .before .before .befor
 opened c =
     let a = c .before .before .before .before .before .before .before .before .before .before .before .before .args in
     write-page (a .d) (a .ask) (a .pels .now) (a .out .now) (on (c .before .before .before .before .before .before .before)) (c .before .i .given .0 .0)
-    (sym (c .before .before .before .find-page .ensures .0) ∙ c .before .i .given .1)
+    (slot c)
 
 sizes : (c : tie.After-row-bytes) →
     let a = c .before .before .before .before .before .before .before .before .before .before .before .before .before .before .before .before .args in
@@ -73,12 +84,11 @@ returns : tie.Need-returns
 returns c =
     let a = c .before .before .before .before .before .before .args in
     let r = c .before .before .early-refusal in
-    let e = write-early (a .d) (a .ask) (a .pels .now) (a .out .now) (a .good) (r .result) (c .before .before .before .before .before .before .pre) (r .ensures)
+    let e = write-early (a .d) (a .ask) (a .pels .now) (a .out .now) (r .result) (asked (c .before .before))
     (c .before .if1 .taken) in (
       c .refused .ensures ∙ write-refused (a .d) (a .ask) (a .pels .now) (a .out .now) (r .result) e (c .before .if1 .taken),
       write-keeps (a .d) (a .ask) (a .pels .now)
-          (a .out .now) (r .result) e (c .before .if1 .taken) (write-early-keeps (a .d) (a .ask) (a .pels .now) (a .out .now) (a .good) (r .result)
-          (c .before .before .before .before .before .before .pre) (r .ensures)),
+          (a .out .now) (r .result) e (c .before .if1 .taken) (write-early-keeps (a .d) (a .ask) (a .pels .now) (a .out .now) (r .result) (asked (c .before .before))),
     )
 
 returns-2 : tie.Need-returns-2
@@ -113,7 +123,7 @@ array-copy-out-page c = slot-within c
 returns-4 : tie.Need-returns-4
 returns-4 c =
     let a = c .before .before .before .before .before .before .before .before .before .before .before .before .before .before .before .before .args in
-    let f = sym (c .before .before .before .before .before .before .before .find-page .ensures .0) ∙ c .before .before .before .before .before .i .given .1 in
+    let f = slot (c .before .before .before .before) in
     let i = c .before .before .before .before .before .i .given .0 .0 in
     let b = on (c .before .before .before .before .before .before .before .before .before .before .before) in
     let g = ranged (c .before .before .before .before .before .before .before .before .before) in
@@ -134,8 +144,7 @@ returns-5 c =
     let a =
     c .before .before .before .before .before .before .before .before .before .before .before .before .before .before .before .before .before .before .args
     in
-    let f = sym (c .before .before .before .before .before .before .before .before .before .find-page .ensures .0)
-    ∙ c .before .before .before .before .before .before .before .i .given .1 in
+    let f = slot (c .before .before .before .before .before .before) in
     let i = c .before .before .before .before .before .before .before .i .given .0 .0 in
     let b = on (c .before .before .before .before .before .before .before .before .before .before .before .before .before) in
     let g = ranged (c .before .before .before .before .before .before .before .before .before .before .before) in
@@ -155,8 +164,7 @@ returns-6 c =
     let a =
     c .before .before .before .before .before .before .before .before .before .before .before .before .before .before .before .before .before .before .before .before .args
     in
-    let f = sym (c .before .before .before .before .before .before .before .before .before .before .before .find-page .ensures .0)
-    ∙ c .before .before .before .before .before .before .before .before .before .i .given .1 in
+    let f = slot (c .before .before .before .before .before .before .before .before) in
     let i = c .before .before .before .before .before .before .before .before .before .i .given .0 .0 in
     let b = on (c .before .before .before .before .before .before .before .before .before .before .before .before .before .before .before) in
     let g = ranged (c .before .before .before .before .before .before .before .before .before .before .before .before .before) in
@@ -179,10 +187,7 @@ returns-7 c =
     let a =
     c .before .before .before .before .before .before .before .before .before .before .before .before .before .before .before .before .before .before .before .before .before .before .before .before .before .before .before .before .args
     in
-    let f = sym
-    (c .before .before .before .before .before .before .before .before .before .before .before .before .before .before .before .before .before .before .before .find-page .ensures .0)
-    ∙
-    c .before .before .before .before .before .before .before .before .before .before .before .before .before .before .before .before .before .i .given .1
+    let f = slot (c .before .before .before .before .before .before .before .before .before .before .before .before .before .before .before .before)
     in
     let i =
     c .before .before .before .before .before .before .before .before .before .before .before .before .before .before .before .before .before .i .given .0 .0
@@ -215,10 +220,8 @@ returns-8 c =
     let a =
     c .before .before .before .before .before .before .before .before .before .before .before .before .before .before .before .before .before .before .before .before .before .before .before .before .before .before .before .before .before .before .args
     in
-    let f = sym
-    (c .before .before .before .before .before .before .before .before .before .before .before .before .before .before .before .before .before .before .before .before .before .find-page .ensures .0)
-    ∙
-    c .before .before .before .before .before .before .before .before .before .before .before .before .before .before .before .before .before .before .before .i .given .1
+    let f = slot
+    (c .before .before .before .before .before .before .before .before .before .before .before .before .before .before .before .before .before .before)
     in
     let i =
     c .before .before .before .before .before .before .before .before .before .before .before .before .before .before .before .before .before .before .before .i .given .0 .0
