@@ -10,22 +10,22 @@ use Rattle.store.specs.Store.{inFront}
 use Rattle.estimate.specs.declared.Table.{Table}
 use Rattle.template.specs.Pels.{rowBytes, bandPadded}
 use Rattle.band.specs.declared.Wrote.{Wrote}
-use Rattle.band.specs.Band.{maxRows, Written, written, hasRoom, wroteAnswer, wroteOut}
+use Rattle.band.specs.Band.{maxRows, Written, hasRoom, wroteAnswer, wroteOut}
 use Rattle.desk.specs.declared.Ask.{Ask}
 use Rattle.desk.specs.declared.Page.{Page}
 use Rattle.desk.specs.declared.Desk.{Desk}
 use Rattle.desk.specs.declared.Found.{Found}
 use Rattle.desk.specs.declared.Found.the-variants.{At, Nothing}
 use Rattle.desk.specs.Places.{noPage, pageFound, pageAt, isFound}
-use Rattle.desk.specs.Lawful.{within, lawfulKey, lawful}
+use Rattle.desk.specs.Lawful.{within, lawful}
 use Rattle.desk.specs.OpenPages.{OpenPage, open-page}
 use Rattle.desk.specs.Refusals.{refusal}
 use Rattle.desk.specs.Calls.{refused, done, bandOf, writeTests, servedPage, bandDesk, writeSpec, writeLent}
-use Rattle.calls.specs.Refusing.{early, given-lawful, Begun, begun, early-keeps, at-early, at-size, at-none, at-other-way, at-pels, at-padding, at-room, at-end, refuses, keeps, clears}
+use Rattle.calls.specs.Refusing.{FirstTwo, Begun, begun, early-keeps, at-early, at-size, at-none, at-other-way, at-pels, at-padding, at-room, at-end, refuses, keeps, clears}
 
--- the page after a band that was written
-unfoldable pub pageAfter : Page → Wrote → Page
-pageAfter p w = record { state = p .state; school = p .school; class = p .class; width = p .width; table = w .table; last = w .last }
+-- the page after a band: its table and last row
+unfoldable pub pageAfter : Page → Table → List ℕ → Page
+pageAfter p t l = record { state = p .state; school = p .school; class = p .class; width = p .width; table = t; last = l }
 
 -- what writing a band gives, with room and without
 abbrev withRoom : Written → Wrote
@@ -40,10 +40,7 @@ by-room false a b r e p q = sym (ap (λ (x : Wrote). x .room) e ∙ q)
 
 -- ---- the number: n is that of the first two tests
 module _ (d : Desk) (ask : Ask) (pels out : List ℕ) where
-  module _ (good : Bool) (n : ℕ) (p : good ≡ lawful d) (e : n ≡ early (not good) (not (lawfulKey (ask .key .school) (ask .key .class)))) where
-    first : n ≡ early (not (lawful d)) (not (lawfulKey (ask .key .school) (ask .key .class)))
-    first = given-lawful good (lawful d) (not (lawfulKey (ask .key .school) (ask .key .class))) n p e
-
+  module _ (n : ℕ) (first : FirstTwo d (ask .key) n) where
     pub write-early : (n ≡ 0 → ⊥) → refusal (writeTests d ask pels out) ≡ n
     unfolding writeTests
     write-early h = at-early (writeTests d ask pels out) n first h
@@ -150,7 +147,7 @@ module _ (d : Desk) (ask : Ask) (pels out : List ℕ) where
         rw (room-is false h)
         (clears (refusal (writeTests d ask pels out)) out (inFront (bandOf (pageAt d (pageFound d (ask .key))) (ask .rows) pels .code) out) e)
 
-    pub write-done : (served : Page) → r .room ≡ true → refusal (writeTests d ask pels out) ≡ 0 → served ≡ pageAfter (getD (d .pages) i noPage) r
+    pub write-done : (served : Page) → r .room ≡ true → refusal (writeTests d ask pels out) ≡ 0 → served ≡ pageAfter (getD (d .pages) i noPage) (r .table) (r .last)
         → done (r .length) (r .shifts) (record { pages = set (d .pages) i served; places = d .places }) ≡ writeSpec d ask pels out
     unfolding writeSpec bandDesk servedPage pageAfter wroteAnswer
     write-done served h e q = let g = rw (room-is true h) at answer in rw (e, f, q, g)

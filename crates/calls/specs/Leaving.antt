@@ -1,7 +1,7 @@
 -- Close and abandon: when each is refused, and the desk that each leaves. Assumes nothing.
 use mathlib.Core.Path.{_≡_, refl, ap}
 use Prim.Native.Nat.{ℕ}
-use mathlib.Core.Bool.{Bool, true, false, not}
+use mathlib.Core.Bool.{true, false, not}
 use lib.ListN.{getD, set}
 use Rattle.desk.specs.declared.Key.{Key}
 use Rattle.desk.specs.declared.Page.{Page}
@@ -10,16 +10,12 @@ use Rattle.desk.specs.declared.Desk.{Desk}
 use Rattle.desk.specs.declared.Found.{Found}
 use Rattle.desk.specs.declared.Found.the-variants.{At, Nothing}
 use Rattle.desk.specs.Places.{noPage, unusedPage, freePlace, pageFound, placeFound, tableFound, isFound, withPlace}
-use Rattle.desk.specs.Lawful.{lawfulKey, lawful}
 use Rattle.desk.specs.Refusals.{refusal}
 use Rattle.desk.specs.Calls.{refused, done, leaveTests, learnedPlace, closeDesk, closeSpec, abandonDesk, abandonSpec}
-use Rattle.calls.specs.Refusing.{early, given-lawful, begun, at-early, at-none, at-end, refuses, accepts}
+use Rattle.calls.specs.Refusing.{FirstTwo, begun, at-early, at-none, at-end, refuses, accepts}
 
 -- ---- the number: n is that of the first two tests
-module _ (d : Desk) (k : Key) (good : Bool) (n : ℕ) (p : good ≡ lawful d) (e : n ≡ early (not good) (not (lawfulKey (k .school) (k .class)))) where
-  first : n ≡ early (not (lawful d)) (not (lawfulKey (k .school) (k .class)))
-  first = given-lawful good (lawful d) (not (lawfulKey (k .school) (k .class))) n p e
-
+module _ (d : Desk) (k : Key) (n : ℕ) (first : FirstTwo d k n) where
   pub leave-early : (n ≡ 0 → ⊥) → refusal (leaveTests d k) ≡ n
   unfolding leaveTests
   leave-early h = at-early (leaveTests d k) n first h

@@ -1,7 +1,7 @@
 -- Open: when it is refused, and the desk that it leaves. Assumes nothing.
 use mathlib.Core.Path.{_≡_, refl, ap}
 use Prim.Native.Nat.{ℕ}
-use mathlib.Core.Bool.{Bool, true, false, not, _&&_}
+use mathlib.Core.Bool.{true, false, not, _&&_}
 use lib.ListN.{getD, set}
 use Rattle.estimate.specs.declared.Table.{Table}
 use Rattle.estimate.specs.Estimate.{fresh}
@@ -14,10 +14,10 @@ use Rattle.desk.specs.declared.Outcome.{Outcome}
 use Rattle.desk.specs.declared.Found.{Found}
 use Rattle.desk.specs.declared.Found.the-variants.{At, Nothing}
 use Rattle.desk.specs.Places.{noPlace, stateFor, pageFound, tableFound, freePageFound, freePlaceFound, isFound, withPage, withPlace}
-use Rattle.desk.specs.Lawful.{within, lawfulKey, lawful}
+use Rattle.desk.specs.Lawful.{within}
 use Rattle.desk.specs.Refusals.{refusal, refuse}
 use Rattle.desk.specs.Calls.{refused, done, unless, openTests, startTable, openPage, reservedPlace, openDesk, openSpec}
-use Rattle.calls.specs.Refusing.{early, given-lawful, Begun, begun, at-early, at-size, at-opened, at-pages, from-places, refuses}
+use Rattle.calls.specs.Refusing.{FirstTwo, Begun, begun, at-early, at-size, at-opened, at-pages, from-places, refuses}
 
 -- an opened page with its working table
 unfoldable pub pageFrom : Opening → Table → Page
@@ -40,10 +40,7 @@ unfolding openNew
 new-done d ask i j reserved table opened f r t o = rw (f, r, o, ← t)
 
 -- ---- the number: n is that of the first two tests
-module _ (d : Desk) (ask : Opening) (good : Bool) (n : ℕ) (p : good ≡ lawful d) (e : n ≡ early (not good) (not (lawfulKey (ask .key .school) (ask .key .class)))) where
-  first : n ≡ early (not (lawful d)) (not (lawfulKey (ask .key .school) (ask .key .class)))
-  first = given-lawful good (lawful d) (not (lawfulKey (ask .key .school) (ask .key .class))) n p e
-
+module _ (d : Desk) (ask : Opening) (n : ℕ) (first : FirstTwo d (ask .key) n) where
   pub open-early : (n ≡ 0 → ⊥) → refusal (openTests d ask) ≡ n
   unfolding openTests
   open-early h = at-early (openTests d ask) n first h

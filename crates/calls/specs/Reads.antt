@@ -20,21 +20,18 @@ use Rattle.desk.specs.declared.Outcome.{Outcome}
 use Rattle.desk.specs.declared.Found.{Found}
 use Rattle.desk.specs.declared.Found.the-variants.{At, Nothing}
 use Rattle.desk.specs.Places.{noPage, pageFound, pageAt, isFound}
-use Rattle.desk.specs.Lawful.{within, lawfulKey, lawful}
+use Rattle.desk.specs.Lawful.{within, lawful}
 use Rattle.desk.specs.OpenPages.{OpenPage, open-page}
 use Rattle.desk.specs.Refusals.{refusal, lentAfter}
 use Rattle.desk.specs.Calls.{refused, done, bandOf, readTests, servedPage, bandDesk, readSpec, readLent, ReadOutcome}
-use Rattle.calls.specs.Refusing.{early, given-lawful, Begun, begun, early-keeps, at-early, at-size, at-none, at-other-way, at-room, at-end, refuses, keeps, clears}
-
--- the page after a band that was read
-unfoldable pub pageRead : Page → Read → Page
-pageRead p r = record { state = p .state; school = p .school; class = p .class; width = p .width; table = r .table; last = r .last }
+use Rattle.calls.specs.Bands.{pageAfter}
+use Rattle.calls.specs.Refusing.{FirstTwo, Begun, begun, early-keeps, at-early, at-size, at-none, at-other-way, at-room, at-end, refuses, keeps, clears}
 
 -- by what reading gives: no room, damaged, or the page served
 unfoldable pub readFound : Desk → ℕ → Page → Read → Outcome
 readFound d i p r =
     cond (r .room)
-    (cond (r .good) (done (r .length) (r .shifts) (record { pages = set (d .pages) i (pageRead p r); places = d .places })) (refused 10 d))
+    (cond (r .good) (done (r .length) (r .shifts) (record { pages = set (d .pages) i (pageAfter p (r .table) (r .last)); places = d .places })) (refused 10 d))
     (refused 9 d)
 
 module _ (d : Desk) (i : ℕ) (p : Page) (r : Read) where
@@ -46,9 +43,9 @@ module _ (d : Desk) (i : ℕ) (p : Page) (r : Read) where
   unfolding readFound
   found-damaged e g = rw (e, g)
 
-  pub found-band : (served : Page) → r .room ≡ true → r .good ≡ true → served ≡ pageRead p r
+  pub found-band : (served : Page) → r .room ≡ true → r .good ≡ true → served ≡ pageAfter p (r .table) (r .last)
       → done (r .length) (r .shifts) (record { pages = set (d .pages) i served; places = d .places }) ≡ readFound d i p r
-  unfolding readFound pageRead
+  unfolding readFound pageAfter
   found-band served e g q = rw (e, g, q)
 
 -- longer than the buffer: not within it
@@ -62,10 +59,7 @@ or-false a b e = rw e
 
 -- ---- the number: n is that of the first two tests
 module _ (d : Desk) (ask : Ask) (code out : List ℕ) where
-  module _ (good : Bool) (n : ℕ) (p : good ≡ lawful d) (e : n ≡ early (not good) (not (lawfulKey (ask .key .school) (ask .key .class)))) where
-    first : n ≡ early (not (lawful d)) (not (lawfulKey (ask .key .school) (ask .key .class)))
-    first = given-lawful good (lawful d) (not (lawfulKey (ask .key .school) (ask .key .class))) n p e
-
+  module _ (n : ℕ) (first : FirstTwo d (ask .key) n) where
     pub read-early : (n ≡ 0 → ⊥) → refusal (readTests d ask code out) ≡ n
     unfolding readTests
     read-early h = at-early (readTests d ask code out) n first h
@@ -170,7 +164,7 @@ module _ (d : Desk) (ask : Ask) (code out : List ℕ) where
 
     outcome-fits : (found : Option (List ℕ)) → fits ≡ true → refusal (readTests d ask code out) ≡ 0
         → rd ≡ readAnswer found (page .width) (ask .rows) (page .table) (page .last) out → readFound d i page rd ≡ readSpec found d ask code out
-    unfolding readFound readAnswer readSpec bandDesk servedPage pageRead bandOf
+    unfolding readFound readAnswer readSpec bandDesk servedPage pageAfter bandOf
     outcome-fits (some band) y e q = let g = rw y at q in rw (e, f, g)
     outcome-fits none y e q = let g = rw y at q in rw (e, g)
 

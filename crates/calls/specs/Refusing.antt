@@ -2,31 +2,28 @@
 use mathlib.Core.Path.{_≡_, refl, sym, ap, _∙_}
 use Prim.Native.Nat.{ℕ, zero, suc}
 use native.Mathlib.Omega.{arith}
-use mathlib.Core.Bool.{Bool, true, false, not, _&&_}
+use mathlib.Core.Bool.{Bool, true, false, not}
 use mathlib.Core.List.{List}
 use borrow.Author.Tests.{ne-eqb}
 use Rattle.store.specs.Store.{cleared}
+use Rattle.desk.specs.declared.Key.{Key}
 use Rattle.desk.specs.declared.Desk.{Desk}
 use Rattle.desk.specs.declared.Outcome.{Outcome}
+use Rattle.desk.specs.Lawful.{lawfulKey, lawful}
 use Rattle.desk.specs.Refusals.{Tests, refusal, refuse, lentAfter}
 use Rattle.desk.specs.Calls.{refused, unless, unlessLent}
-
--- a test after a test
-pub and-goes : (a b : Bool) → a ≡ true → b ≡ (a && b)
-and-goes true b e = refl
-and-goes false b e = absurd (let z : _≡_ {A = ℕ} 0 1 = cc in omega arith)
-
-pub and-stops : (a b : Bool) → a ≡ false → false ≡ (a && b)
-and-stops true b e = sym (ap (λ x. x && b) e)
-and-stops false b e = refl
 
 -- the first two tests, which every call has
 abbrev pub early : Bool → Bool → ℕ
 early unlawful key = refuse unlawful 12 (refuse key 1 0)
 
+-- n is what they give for that desk and key
+abbrev pub FirstTwo : Desk → Key → ℕ → Type 0
+FirstTwo d k n = n ≡ early (not (lawful d)) (not (lawfulKey (k .school) (k .class)))
+
 -- whether the desk is lawful, as it was given
-pub given-lawful : (good law key : Bool) (n : ℕ) → good ≡ law → n ≡ early (not good) key → n ≡ early (not law) key
-given-lawful good law key n p e = e ∙ ap (λ (g : Bool). early (not g) key) p
+pub first-two : (d : Desk) (k : Key) (good : Bool) (n : ℕ) → good ≡ lawful d → n ≡ early (not good) (not (lawfulKey (k .school) (k .class))) → FirstTwo d k n
+first-two d k good n p e = e ∙ ap (λ (g : Bool). early (not g) (not (lawfulKey (k .school) (k .class)))) p
 
 module _ (t : Tests) where
   -- what every call has passed that goes on

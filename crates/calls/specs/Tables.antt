@@ -1,7 +1,7 @@
 -- Drop and look: when each is refused, and what each leaves of the desk and the lent output. Assumes nothing.
 use mathlib.Core.Path.{_≡_, refl, ap}
 use Prim.Native.Nat.{ℕ, _≤_, _<_}
-use mathlib.Core.Bool.{Bool, true, false, not}
+use mathlib.Core.Bool.{true, false, not}
 use mathlib.Core.List.{List}
 use lib.ListN.{getD, set, length}
 use borrow.Author.Tests.{lt-ltb, le-ltb}
@@ -12,16 +12,12 @@ use Rattle.desk.specs.declared.Desk.{Desk}
 use Rattle.desk.specs.declared.Found.{Found}
 use Rattle.desk.specs.declared.Found.the-variants.{At, Nothing}
 use Rattle.desk.specs.Places.{noPlace, freePlace, pageFound, placeAt, tableFound, isFound, withPlace}
-use Rattle.desk.specs.Lawful.{lawfulKey, lawful}
 use Rattle.desk.specs.Refusals.{refusal}
 use Rattle.desk.specs.Calls.{refused, done, dropTests, dropSpec, lookTests, lookSpec, lookLent}
-use Rattle.calls.specs.Refusing.{early, given-lawful, Begun, begun, early-keeps, at-early, at-opened, at-untaught, at-room, at-end, refuses, accepts, keeps, clears}
+use Rattle.calls.specs.Refusing.{FirstTwo, Begun, begun, early-keeps, at-early, at-opened, at-untaught, at-room, at-end, refuses, accepts, keeps, clears}
 
 -- ---- the numbers: n is that of the first two tests
-module _ (d : Desk) (k : Key) (good : Bool) (n : ℕ) (p : good ≡ lawful d) (e : n ≡ early (not good) (not (lawfulKey (k .school) (k .class)))) where
-  first : n ≡ early (not (lawful d)) (not (lawfulKey (k .school) (k .class)))
-  first = given-lawful good (lawful d) (not (lawfulKey (k .school) (k .class))) n p e
-
+module _ (d : Desk) (k : Key) (n : ℕ) (first : FirstTwo d k n) where
   pub drop-early : (n ≡ 0 → ⊥) → refusal (dropTests d k) ≡ n
   unfolding dropTests
   drop-early h = at-early (dropTests d k) n first h

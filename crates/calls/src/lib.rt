@@ -2,16 +2,15 @@
 ghost use mathlib.Core.Path.{_≡_};
 ghost use mathlib.Core.Bool.{not};
 ghost use Prim.Native.Nat.{_*_, _≤_, _<_};
-ghost use lib.ListN.{length};
+ghost use lib.ListN.{length, set};
 ghost use Rattle.estimate.specs.declared.Table.{Table};
 ghost use Rattle.store.specs.Store.{inFront};
-ghost use Rattle.desk.specs.Lawful.{within, lawfulKey, lawful};
+ghost use Rattle.desk.specs.Lawful.{lawfulKey, lawful};
 ghost use Rattle.desk.specs.Calls.{done, refused, reservedPlace, learnedPlace, openSpec, closeSpec, abandonSpec, dropSpec, lookSpec, lookLent, writeSpec, writeLent, ReadOutcome};
 ghost use Rattle.calls.specs.Refusing.{early};
 ghost use Rattle.calls.specs.Bands.{pageAfter};
-ghost use Rattle.calls.specs.Reads.{pageRead, readFound};
+ghost use Rattle.calls.specs.Reads.{readFound};
 ghost use Rattle.calls.specs.Opening.{pageFrom, openNew};
-use band::Wrote;
 use desk::Answer;
 use desk::Ask;
 use desk::Desk;
@@ -26,7 +25,7 @@ use estimate::Table;
 use reader::Read;
 
 // A refusal: its number, and the desk as it was.
-pub fn refused(n: u64, d: Desk) -> Outcome
+fn refused(n: u64, d: Desk) -> Outcome
     ensures { λ r. ⌜ r ≡ refused n d ⌝ }
 {
     Outcome {
@@ -40,7 +39,7 @@ pub fn refused(n: u64, d: Desk) -> Outcome
 }
 
 // An accepted call: its length, S, and the desk after it.
-pub fn done(len: u64, shifts: u64, d: Desk) -> Outcome
+fn done(len: u64, shifts: u64, d: Desk) -> Outcome
     ensures { λ r. ⌜ r ≡ done len shifts d ⌝ }
 {
     Outcome {
@@ -53,41 +52,21 @@ pub fn done(len: u64, shifts: u64, d: Desk) -> Outcome
     }
 }
 
-// A number from 1 to a limit.
-pub fn in_range(n: u64, high: u64) -> bool
-    ensures { λ r. ⌜ r ≡ within 1 n high ⌝ }
-{
-    if 1 <= n {
-        return n <= high;
-    }
-    false
-}
-
-// A lawful key: each number 1 to 65,535.
-pub fn lawful_key(key: Key) -> bool
-    ensures { λ r. ⌜ r ≡ lawfulKey (key .school) (key .class) ⌝ }
-{
-    if in_range(key.school, 65535) {
-        return in_range(key.class, 65535);
-    }
-    false
-}
-
 // The refusals that every call tests first, 12 and 1; 0 where it goes on.
-pub fn early_refusal(good: bool, key: Key) -> u64
+fn early_refusal(good: bool, key: Key) -> u64
     ensures { λ r. ⌜ r ≡ early (not good) (not (lawfulKey (key .school) (key .class))) ⌝ }
 {
     if !good {
         return 12;
     }
-    if !lawful_key(key) {
+    if !lawful::lawful_key(key.school, key.class) {
         return 1;
     }
     0
 }
 
 // A learned place of the key.
-pub fn learned_place(key: Key, table: Table) -> Place
+fn learned_place(key: Key, table: Table) -> Place
     ensures { λ r. ⌜ r ≡ learnedPlace key table ⌝ }
 {
     Place {
@@ -99,7 +78,7 @@ pub fn learned_place(key: Key, table: Table) -> Place
 }
 
 // A place that an open page reserves.
-pub fn reserved_place(key: Key) -> Place
+fn reserved_place(key: Key) -> Place
     ensures { λ r. ⌜ r ≡ reservedPlace key ⌝ }
 {
     Place {
@@ -113,7 +92,7 @@ pub fn reserved_place(key: Key) -> Place
 }
 
 // An opened page with its working table; its last row is white.
-pub fn page_from(ask: Opening, table: Table) -> Page
+fn page_from(ask: Opening, table: Table) -> Page
     ensures { λ r. ⌜ r ≡ pageFrom ask table ⌝ }
 {
     let way = ask.direction;
@@ -132,7 +111,7 @@ pub fn page_from(ask: Opening, table: Table) -> Page
 }
 
 // Close: the working table becomes the class's learned table, and the page is gone.
-pub fn close_when(d: Desk, key: Key, good: bool) -> Outcome
+fn close_when(d: Desk, key: Key, good: bool) -> Outcome
     requires { ⌜ good ≡ lawful d ⌝ }
     ensures { λ r. ⌜ r ≡ closeSpec d key ⌝ }
 {
@@ -155,7 +134,7 @@ pub fn close_when(d: Desk, key: Key, good: bool) -> Outcome
 }
 
 // Abandon: the page is gone, and a place that was only reserved is free.
-pub fn abandon_when(d: Desk, key: Key, good: bool) -> Outcome
+fn abandon_when(d: Desk, key: Key, good: bool) -> Outcome
     requires { ⌜ good ≡ lawful d ⌝ }
     ensures { λ r. ⌜ r ≡ abandonSpec d key ⌝ }
 {
@@ -182,7 +161,7 @@ pub fn abandon_when(d: Desk, key: Key, good: bool) -> Outcome
 }
 
 // Drop: the class's learned table is forgotten.
-pub fn drop_when(d: Desk, key: Key, good: bool) -> Outcome
+fn drop_when(d: Desk, key: Key, good: bool) -> Outcome
     requires { ⌜ good ≡ lawful d ⌝ }
     ensures { λ r. ⌜ r ≡ dropSpec d key ⌝ }
 {
@@ -205,7 +184,7 @@ pub fn drop_when(d: Desk, key: Key, good: bool) -> Outcome
 }
 
 // Open: the working table is the class's learned table, or the fresh one.
-pub fn open_when(d: Desk, ask: Opening, good: bool) -> Outcome
+fn open_when(d: Desk, ask: Opening, good: bool) -> Outcome
     requires { ⌜ good ≡ lawful d ⌝ }
     ensures { λ r. ⌜ r ≡ openSpec d ask ⌝ }
 {
@@ -214,7 +193,7 @@ pub fn open_when(d: Desk, ask: Opening, good: bool) -> Outcome
     if early != 0 {
         return refused(early, d);
     }
-    if !in_range(ask.width, 2048) {
+    if !lawful::in_range(ask.width, 2048) {
         return refused(6, d);
     }
     let pages = d.pages;
@@ -236,7 +215,7 @@ pub fn open_when(d: Desk, ask: Opening, good: bool) -> Outcome
 }
 
 // The open page of a class without a table reserves a place.
-pub fn open_new(d: Desk, ask: Opening, i: usize) -> Outcome
+fn open_new(d: Desk, ask: Opening, i: usize) -> Outcome
     requires { ⌜ i < 4 ⌝ }
     ensures { λ r. ⌜ r ≡ openNew d ask i ⌝ }
 {
@@ -254,7 +233,7 @@ pub fn open_new(d: Desk, ask: Opening, i: usize) -> Outcome
 }
 
 // A table's bytes in the front of a buffer, the rest kept.
-pub fn show_table(table: Table, out: &mut [u8])
+fn show_table(table: Table, out: &mut [u8])
     requires { ⌜ 128 ≤ length (now out) ⌝ }
     ensures { λ _. ⌜ now (out .exit) ≡ inFront (table .entries) (now (out .entry)) ⌝ }
 {
@@ -266,7 +245,7 @@ pub fn show_table(table: Table, out: &mut [u8])
 }
 
 // Look: the learned table, one byte per context. While a page is open this is still the old table.
-pub fn look_when(d: Desk, key: Key, out: &mut [u8], good: bool) -> Outcome
+fn look_when(d: Desk, key: Key, out: &mut [u8], good: bool) -> Outcome
     requires { ⌜ good ≡ lawful d ⌝ }
     ensures { λ r. ⌜ (r ≡ lookSpec d key (now (out .entry))) × (now (out .exit) ≡ lookLent d key (now (out .entry))) ⌝ }
 {
@@ -288,7 +267,7 @@ pub fn look_when(d: Desk, key: Key, out: &mut [u8], good: bool) -> Outcome
 }
 
 // Write band: the code from the page's working table and last row, which both go on.
-pub fn write_when(d: Desk, ask: Ask, pels: &[u8], out: &mut [u8], good: bool) -> Outcome
+fn write_when(d: Desk, ask: Ask, pels: &[u8], out: &mut [u8], good: bool) -> Outcome
     requires { ⌜ good ≡ lawful d ⌝ }
     ensures { λ r. ⌜ (r ≡ writeSpec d ask (now (pels .entry)) (now (out .entry))) × (now (out .exit) ≡ writeLent d ask (now (pels .entry)) (now (out .entry))) ⌝ }
 {
@@ -297,7 +276,7 @@ pub fn write_when(d: Desk, ask: Ask, pels: &[u8], out: &mut [u8], good: bool) ->
     if early != 0 {
         return refused(early, d);
     }
-    if !in_range(ask.rows, 64) {
+    if !lawful::in_range(ask.rows, 64) {
         return refused(6, d);
     }
     let pages = d.pages;
@@ -322,18 +301,15 @@ pub fn write_when(d: Desk, ask: Ask, pels: &[u8], out: &mut [u8], good: bool) ->
     if !wrote.room {
         return refused(9, d);
     }
-    let served = served_page(page, wrote);
-    let mut next = d;
-    next.pages[i] = served;
-    done(wrote.length as u64, wrote.shifts, next)
+    let row = wrote.last;
+    let served = served_page(page, wrote.table, row);
+    serve(d, i, served, wrote.length as u64, wrote.shifts)
 }
 
 // The page after a band: its table and last row.
-pub fn served_page(page: Page, wrote: Wrote) -> Page
-    ensures { λ r. ⌜ r ≡ pageAfter page wrote ⌝ }
+fn served_page(page: Page, table: Table, last: [u8; 256]) -> Page
+    ensures { λ r. ⌜ r ≡ pageAfter page table last ⌝ }
 {
-    let table = wrote.table;
-    let last = wrote.last;
     Page {
         state: page.state,
         school: page.school,
@@ -344,8 +320,18 @@ pub fn served_page(page: Page, wrote: Wrote) -> Page
     }
 }
 
+// A band served: the page goes on in its slot, and no place changes, so that an abandoned page teaches nothing.
+fn serve(d: Desk, i: usize, page: Page, length: u64, shifts: u64) -> Outcome
+    requires { ⌜ i < 4 ⌝ }
+    ensures { λ r. ⌜ r ≡ done length shifts (record { pages = set (d .pages) i page; places = d .places }) ⌝ }
+{
+    let mut next = d;
+    next.pages[i] = page;
+    done(length, shifts, next)
+}
+
 // Read band: the rows that would have been written as exactly that code. The page's table and last row go on as the writer's did.
-pub fn read_when(d: Desk, ask: Ask, code: &[u8], out: &mut [u8], good: bool) -> Outcome
+fn read_when(d: Desk, ask: Ask, code: &[u8], out: &mut [u8], good: bool) -> Outcome
     requires { ⌜ good ≡ lawful d ⌝ }
     ensures { λ r. ⌜ ReadOutcome d ask (now (code .entry)) (now (out .entry)) r (now (out .exit)) ⌝ }
 {
@@ -354,7 +340,7 @@ pub fn read_when(d: Desk, ask: Ask, code: &[u8], out: &mut [u8], good: bool) -> 
     if early != 0 {
         return refused(early, d);
     }
-    if !in_range(ask.rows, 64) {
+    if !lawful::in_range(ask.rows, 64) {
         return refused(6, d);
     }
     if code.len() > 32768 {
@@ -377,7 +363,7 @@ pub fn read_when(d: Desk, ask: Ask, code: &[u8], out: &mut [u8], good: bool) -> 
 }
 
 // What was found in a code: no room, damaged, or a band.
-pub fn read_found(d: Desk, i: usize, page: Page, read: Read) -> Outcome
+fn read_found(d: Desk, i: usize, page: Page, read: Read) -> Outcome
     requires { ⌜ i < 4 ⌝ }
     ensures { λ r. ⌜ r ≡ readFound d i page read ⌝ }
 {
@@ -387,26 +373,9 @@ pub fn read_found(d: Desk, i: usize, page: Page, read: Read) -> Outcome
     if !read.good {
         return refused(10, d);
     }
-    let served = read_page(page, read);
-    let mut next = d;
-    next.pages[i] = served;
-    done(read.length as u64, read.shifts, next)
-}
-
-// The page after a band that was read: its table and last row.
-pub fn read_page(page: Page, read: Read) -> Page
-    ensures { λ r. ⌜ r ≡ pageRead page read ⌝ }
-{
-    let table = read.table;
     let last = read.last;
-    Page {
-        state: page.state,
-        school: page.school,
-        class: page.class,
-        width: page.width,
-        table: table,
-        last: last,
-    }
+    let served = served_page(page, read.table, last);
+    serve(d, i, served, read.length as u64, read.shifts)
 }
 
 // ---- The calls. Each tests the desk itself.

@@ -12,7 +12,7 @@ use desk::Opening;
 use desk::Outcome;
 
 // ---- the calls by value, with numbers for what is asked: other languages hand over no records
-pub fn closed(d: Desk, school: u64, class: u64) -> Outcome
+fn closed(d: Desk, school: u64, class: u64) -> Outcome
     ensures { λ r. ⌜ r ≡ closeSpec d (keyOf school class) ⌝ }
 {
     let key = Key {
@@ -22,7 +22,7 @@ pub fn closed(d: Desk, school: u64, class: u64) -> Outcome
     calls::close(d, key)
 }
 
-pub fn abandoned(d: Desk, school: u64, class: u64) -> Outcome
+fn abandoned(d: Desk, school: u64, class: u64) -> Outcome
     ensures { λ r. ⌜ r ≡ abandonSpec d (keyOf school class) ⌝ }
 {
     let key = Key {
@@ -32,7 +32,7 @@ pub fn abandoned(d: Desk, school: u64, class: u64) -> Outcome
     calls::abandon(d, key)
 }
 
-pub fn forgotten(d: Desk, school: u64, class: u64) -> Outcome
+fn forgotten(d: Desk, school: u64, class: u64) -> Outcome
     ensures { λ r. ⌜ r ≡ dropSpec d (keyOf school class) ⌝ }
 {
     let key = Key {
@@ -42,7 +42,7 @@ pub fn forgotten(d: Desk, school: u64, class: u64) -> Outcome
     calls::forget(d, key)
 }
 
-pub fn opened_to_write(d: Desk, school: u64, class: u64, width: u64) -> Outcome
+fn opened_to_write(d: Desk, school: u64, class: u64, width: u64) -> Outcome
     ensures { λ r. ⌜ r ≡ openSpec d (toWrite school class width) ⌝ }
 {
     let ask = Opening {
@@ -56,7 +56,7 @@ pub fn opened_to_write(d: Desk, school: u64, class: u64, width: u64) -> Outcome
     calls::open(d, ask)
 }
 
-pub fn opened_to_read(d: Desk, school: u64, class: u64, width: u64) -> Outcome
+fn opened_to_read(d: Desk, school: u64, class: u64, width: u64) -> Outcome
     ensures { λ r. ⌜ r ≡ openSpec d (toRead school class width) ⌝ }
 {
     let ask = Opening {
@@ -70,7 +70,7 @@ pub fn opened_to_read(d: Desk, school: u64, class: u64, width: u64) -> Outcome
     calls::open(d, ask)
 }
 
-pub fn looked(d: Desk, school: u64, class: u64, out: &mut [u8]) -> Outcome
+fn looked(d: Desk, school: u64, class: u64, out: &mut [u8]) -> Outcome
     ensures { λ r. ⌜ (r ≡ lookSpec d (keyOf school class) (now (out .entry))) × (now (out .exit) ≡ lookLent d (keyOf school class) (now (out .entry))) ⌝ }
 {
     let key = Key {
@@ -80,7 +80,7 @@ pub fn looked(d: Desk, school: u64, class: u64, out: &mut [u8]) -> Outcome
     calls::look(d, key, out)
 }
 
-pub fn written(d: Desk, school: u64, class: u64, rows: u64, pels: &[u8], out: &mut [u8]) -> Outcome
+fn written(d: Desk, school: u64, class: u64, rows: u64, pels: &[u8], out: &mut [u8]) -> Outcome
     ensures { λ r. ⌜ (r ≡ writeSpec d (askOf school class rows) (now (pels .entry)) (now (out .entry))) × (now (out .exit) ≡ writeLent d (askOf school class rows) (now (pels .entry)) (now (out .entry))) ⌝ }
 {
     let ask = Ask {
@@ -93,7 +93,7 @@ pub fn written(d: Desk, school: u64, class: u64, rows: u64, pels: &[u8], out: &m
     calls::write(d, ask, pels, out)
 }
 
-pub fn read(d: Desk, school: u64, class: u64, rows: u64, code: &[u8], out: &mut [u8]) -> Outcome
+fn read(d: Desk, school: u64, class: u64, rows: u64, code: &[u8], out: &mut [u8]) -> Outcome
     ensures { λ r. ⌜ ReadOutcome d (askOf school class rows) (now (code .entry)) (now (out .entry)) r (now (out .exit)) ⌝ }
 {
     let ask = Ask {

@@ -1,12 +1,11 @@
 -- Document 01: what each call answers, the desk after it, and the lent output. Assumes nothing.
 use mathlib.Core.Path.{_≡_}
-use mathlib.Core.Logic.{_≢_}
-use Prim.Native.Nat.{ℕ, zero, suc, _*_, _≤_}
+use Prim.Native.Nat.{ℕ, zero, suc, _*_}
 use mathlib.Core.Option.{Option, some, none}
-use mathlib.Core.Bool.{Bool, true, false, cond, not, _&&_, _||_}
-use mathlib.Core.List.{List, []}
-use lib.Dec.{eqb, leb, ltb}
-use lib.ListN.{getD, length}
+use mathlib.Core.Bool.{false, cond, not, _&&_, _||_}
+use mathlib.Core.List.{List}
+use lib.Dec.{eqb, ltb}
+use lib.ListN.{length}
 use Rattle.estimate.specs.declared.Table.{Table}
 use Rattle.estimate.specs.Estimate.{fresh}
 use Rattle.store.specs.Store.{inFront}
@@ -21,7 +20,7 @@ use Rattle.desk.specs.declared.Desk.{Desk}
 use Rattle.desk.specs.declared.Outcome.{Outcome}
 use Rattle.desk.specs.Places.{stateFor, zeroTable, unusedPage, freePlace, pageFound, placeFound, tableFound, freePageFound, freePlaceFound, isFound, pageAt, placeAt, withPage, withPlace}
 use Rattle.desk.specs.Lawful.{within, lawfulKey, lawful}
-use Rattle.desk.specs.Refusals.{Tests, refusal, noTests, lentAfter}
+use Rattle.desk.specs.Refusals.{Tests, refusal, lentAfter}
 
 -- A refusal answers its number, length 0 and S = 0, and changes nothing in the desk. An accepted call answers 0 as its number.
 abbrev pub refused : ℕ → Desk → Outcome

@@ -22,16 +22,30 @@ third true true c p q = refl
 third true false c p q = let z : _≡_ {A = ℕ} 0 1 = cc in absurd (omega arith)
 third false b c p q = let z : _≡_ {A = ℕ} 0 1 = cc in absurd (omega arith)
 
--- none is what an index past the end denotes; X is what the whole search gives
-module _ {A : Type 0} (test : A → Bool) (none : A) (X : Found) where
-  pub found-here : (xs : List A) (i : ℕ) → findBy test (drop i xs) i ≡ X → i < length xs → test (getD xs i none) ≡ true → At i ≡ X
-  unfolding findBy
-  found-here xs i e h y = rw (drop-cons xs i none h, y) at e
+-- a search among n that has come to the i-th
+pub record Searching {A : Type 0} (test : A → Bool) (xs : List A) (n i : ℕ) : Type 0 where
+  pub size : length xs ≡ n
+  pub rest : findBy test (drop i xs) i ≡ findBy test xs 0
 
-  pub found-later : (xs : List A) (i : ℕ) → findBy test (drop i xs) i ≡ X → i < length xs → test (getD xs i none) ≡ false → findBy test (drop (i + 1) xs) (i + 1) ≡ X
-  unfolding findBy
-  found-later xs i e h y = rw add-one (rw (drop-cons xs i none h, y) at e)
+pub search-starts : {A : Type 0} {test : A → Bool} {xs : List A} {n : ℕ} → length xs ≡ n → Searching test xs n 0
+search-starts e = record { size = e; rest = refl }
 
-  pub found-nowhere : (xs : List A) (i : ℕ) → findBy test (drop i xs) i ≡ X → length xs ≤ i → Nothing ≡ X
+module _ {A : Type 0} {test : A → Bool} {xs : List A} {n i : ℕ} (s : Searching test xs n i) where
+  pub found-nowhere : n ≤ i → (Nothing ≡ findBy test xs 0) × foundBelow n Nothing
   unfolding findBy
-  found-nowhere xs i e h = rw (drop-of-length-le xs h) at e
+  found-nowhere h =
+      let past : length xs ≤ i = omega (arith, s .size) in
+      (rw (drop-of-length-le xs past) at (s .rest), tt)
+
+  -- none is what an index past the end denotes
+  module _ (none : A) (h : i < n) where
+    within : i < length xs
+    within = omega (arith, s .size)
+
+    pub found-here : test (getD xs i none) ≡ true → (At i ≡ findBy test xs 0) × foundBelow n (At i)
+    unfolding findBy
+    found-here y = (rw (drop-cons xs i none within, y) at (s .rest), h)
+
+    pub found-later : test (getD xs i none) ≡ false → Searching test xs n (i + 1)
+    unfolding findBy
+    found-later y = record { size = s .size; rest = rw add-one (rw (drop-cons xs i none within, y) at (s .rest)) }

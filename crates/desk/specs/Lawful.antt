@@ -1,13 +1,12 @@
 -- Document 01: when a desk is lawful, sentence by sentence. Assumes nothing.
-use Prim.Native.Nat.{ℕ, zero, suc, _+_, _-_, _*_, _/_, _%_, _^_}
+use Prim.Native.Nat.{ℕ}
 use mathlib.Core.Bool.{Bool, true, false, cond, not, _&&_, _||_}
 use mathlib.Core.List.{List, [], _∷_}
 use lib.Dec.{eqb, leb}
-use lib.ListN.{getD, length, drop}
+use lib.ListN.{drop}
 use Rattle.template.specs.Pels.{rowBytes, rowPadded}
 use Rattle.band.specs.Band.{maxWidth}
 use Rattle.estimate.specs.Estimate.{indexOf}
-use Rattle.desk.specs.declared.Key.{Key}
 use Rattle.desk.specs.declared.Page.{Page}
 use Rattle.desk.specs.declared.Place.{Place}
 use Rattle.desk.specs.declared.Desk.{Desk}

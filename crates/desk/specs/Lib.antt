@@ -4,3 +4,4 @@ pub mod Lawful
 pub mod OpenPages
 pub mod Refusals
 pub mod Calls
+pub mod Looking

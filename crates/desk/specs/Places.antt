@@ -1,11 +1,10 @@
 -- Document 01, "The desk and who may stand at it": keys, pages, places, and how they are found. Assumes nothing.
-use Prim.Native.Nat.{ℕ, zero, suc, _+_}
+use Prim.Native.Nat.{ℕ, suc}
 use mathlib.Core.Bool.{Bool, true, false, cond, not, _&&_}
 use mathlib.Core.List.{List, [], _∷_}
-use lib.Dec.{eqb, leb}
+use lib.Dec.{eqb}
 use lib.ListN.{getD, set, replicate}
 use Rattle.estimate.specs.declared.Table.{Table}
-use Rattle.estimate.specs.Estimate.{fresh}
 use Rattle.band.specs.Band.{white}
 use Rattle.desk.specs.declared.Key.{Key}
 use Rattle.desk.specs.declared.Page.{Page}

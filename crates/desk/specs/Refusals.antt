@@ -32,23 +32,6 @@ refusal t =
     refuse (t .unlawful) 12 (refuse (t .key) 1 (refuse (t .size) 6 (refuse (t .opened) 3 (refuse (t .none) 2 (refuse (t .otherWay) 7 (refuse (t .pels) 6
     (refuse (t .untaught) 11 (refuse (t .pages) 4 (refuse (t .places) 5 (refuse (t .padding) 8 (refuse (t .room) 9 0)))))))))))
 
-abbrev pub noTests : Tests
-noTests =
-    record {
-      unlawful = false;
-      key = false;
-      size = false;
-      opened = false;
-      none = false;
-      otherWay = false;
-      pels = false;
-      untaught = false;
-      pages = false;
-      places = false;
-      padding = false;
-      room = false;
-    }
-
 -- all tests hold from the n-th on
 abbrev heldFrom : ℕ → Tests
 heldFrom n =

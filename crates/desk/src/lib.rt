@@ -1,7 +1,7 @@
 // The desk by value: its types, how pages and places are found, and how they are put.
 ghost use mathlib.Core.Path.{_≡_};
 ghost use Prim.Native.Nat.{_<_};
-ghost use Rattle.desk.specs.Places.{isPageOf, isPlaceOf, isTableOf, isFreePage, isFreePlace, findBy, isFound, unusedPage, freePlace, emptyDesk, withPage, withPlace};
+ghost use Rattle.desk.specs.Places.{isPageOf, isPlaceOf, isTableOf, isFreePage, isFreePlace, findBy, isFound, unusedPage, freePlace, emptyDesk, withPlace};
 ghost use Rattle.desk.specs.Finding.{foundBelow};
 use estimate::Table;
 
@@ -76,7 +76,7 @@ pub enum Found {
 }
 
 // An open page of the key: both numbers, the school and the class.
-pub fn is_page_of(page: Page, key: Key) -> bool
+fn is_page_of(page: Page, key: Key) -> bool
     ensures { λ r. ⌜ r ≡ isPageOf key page ⌝ }
 {
     if page.state == 0 {
@@ -89,7 +89,7 @@ pub fn is_page_of(page: Page, key: Key) -> bool
 }
 
 // A used place of the key.
-pub fn is_place_of(p: Place, key: Key) -> bool
+fn is_place_of(p: Place, key: Key) -> bool
     ensures { λ r. ⌜ r ≡ isPlaceOf key p ⌝ }
 {
     if p.state == 0 {
@@ -102,7 +102,7 @@ pub fn is_place_of(p: Place, key: Key) -> bool
 }
 
 // A learned place of the key.
-pub fn is_table_of(p: Place, key: Key) -> bool
+fn is_table_of(p: Place, key: Key) -> bool
     ensures { λ r. ⌜ r ≡ isTableOf key p ⌝ }
 {
     if p.state != 2 {
@@ -238,19 +238,6 @@ pub fn empty_desk() -> Desk
         pages: [page; 4],
         places: [place; 8],
     }
-}
-
-// The desk with a page put where one was found.
-pub fn with_page(d: Desk, found: Found, p: Page) -> Desk
-    requires { ⌜ foundBelow 4 found ⌝ }
-    ensures { λ r. ⌜ r ≡ withPage d found p ⌝ }
-{
-    let Found::At(i) = found else {
-        return d;
-    };
-    let mut next = d;
-    next.pages[i] = p;
-    next
 }
 
 // The desk with a place put where one was found.

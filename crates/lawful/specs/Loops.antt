@@ -1,6 +1,7 @@
 -- What a loop over an array has left to test, for any element type: at an element that decides, past one that does not, and past all. Assumes nothing.
 use Prim.Native.Nat.{ℕ, _+_, _≤_, _<_}
 use mathlib.Core.Path.{_≡_, refl}
+use native.Mathlib.Omega.{arith}
 use native.Mathlib.Numerals.{add-one}
 use mathlib.Core.Bool.{Bool, true, false, _&&_}
 use mathlib.Core.List.{List, [], _∷_}
@@ -8,45 +9,65 @@ use lib.ListN.{length, drop, getD, drop-of-length-le}
 use lib.Seq.{drop-cons}
 use Rattle.desk.specs.Lawful.{all, any, apart}
 
--- d is what an index past the end reads; X is the answer sought
-module _ {A : Type 0} (test : A → Bool) (d : A) (X : Bool) (xs : List A) (i : ℕ) where
-  pub all-failed : all test (drop i xs) ≡ X → i < length xs → test (getD xs i d) ≡ false → false ≡ X
-  unfolding all
-  all-failed e h t = rw (drop-cons xs i d h, t) at e
+-- a test of all of n elements that has come to the i-th; X is the answer sought
+pub record Left {A P : Type 0} (f : P → List A → Bool) (p : P) (X : Bool) (xs : List A) (n i : ℕ) : Type 0 where
+  pub size : length xs ≡ n
+  pub rest : f p (drop i xs) ≡ X
 
-  pub all-passed : all test (drop i xs) ≡ X → i < length xs → test (getD xs i d) ≡ true → all test (drop (i + 1) xs) ≡ X
-  unfolding all
-  all-passed e h t = rw add-one (rw (drop-cons xs i d h, t) at e)
+pub left-starts : {A P : Type 0} {f : P → List A → Bool} {p : P} {xs : List A} {n i : ℕ} → length xs ≡ n → Left f p (f p (drop i xs)) xs n i
+left-starts e = record { size = e; rest = refl }
 
-  pub all-end : all test (drop i xs) ≡ X → length xs ≤ i → true ≡ X
-  unfolding all
-  all-end e h = rw (drop-of-length-le xs h) at e
+module _ {A : Type 0} {X : Bool} {xs : List A} {n i : ℕ} where
+  module _ {P : Type 0} {f : P → List A → Bool} {p : P} (s : Left f p X xs n i) where
+    -- d is what an index past the end reads
+    here : (d : A) → i < n → f p (getD xs i d ∷ drop (i + 1) xs) ≡ X
+    here d h =
+        let within : i < length xs = omega (arith, s .size) in
+        rw add-one (rw (drop-cons xs i d within) at (s .rest))
 
-  pub any-found : any test (drop i xs) ≡ X → i < length xs → test (getD xs i d) ≡ true → true ≡ X
-  unfolding any
-  any-found e h t = rw (drop-cons xs i d h, t) at e
+    past : n ≤ i → f p [] ≡ X
+    past h =
+        let end : length xs ≤ i = omega (arith, s .size) in
+        rw (drop-of-length-le xs end) at (s .rest)
 
-  pub any-passed : any test (drop i xs) ≡ X → i < length xs → test (getD xs i d) ≡ false → any test (drop (i + 1) xs) ≡ X
-  unfolding any
-  any-passed e h t = rw add-one (rw (drop-cons xs i d h, t) at e)
+  module _ {test : A → Bool} where
+    pub all-failed : Left all test X xs n i → (d : A) → i < n → test (getD xs i d) ≡ false → false ≡ X
+    unfolding all
+    all-failed s d h t = rw t at (here s d h)
 
-  pub any-end : any test (drop i xs) ≡ X → length xs ≤ i → false ≡ X
-  unfolding any
-  any-end e h = rw (drop-of-length-le xs h) at e
+    pub all-passed : Left all test X xs n i → (d : A) → i < n → test (getD xs i d) ≡ true → Left all test X xs n (i + 1)
+    unfolding all
+    all-passed s d h t = record { size = s .size; rest = rw t at (here s d h) }
 
--- the same for apart: an element decides where one after it is the same
-module _ {A : Type 0} (same : A → A → Bool) (d : A) (X : Bool) (xs : List A) (i : ℕ) where
-  pub apart-failed : apart same (drop i xs) ≡ X → i < length xs → any (same (getD xs i d)) (drop (i + 1) xs) ≡ true → false ≡ X
-  unfolding apart
-  apart-failed e h t = rw (drop-cons xs i d h, (rw add-one at t)) at e
+    pub all-end : Left all test X xs n i → n ≤ i → true ≡ X
+    unfolding all
+    all-end s h = past s h
 
-  pub apart-passed : apart same (drop i xs) ≡ X → i < length xs → any (same (getD xs i d)) (drop (i + 1) xs) ≡ false → apart same (drop (i + 1) xs) ≡ X
-  unfolding apart
-  apart-passed e h t = rw add-one (rw (drop-cons xs i d h, (rw add-one at t)) at e)
+    pub any-found : Left any test X xs n i → (d : A) → i < n → test (getD xs i d) ≡ true → true ≡ X
+    unfolding any
+    any-found s d h t = rw t at (here s d h)
 
-  pub apart-end : apart same (drop i xs) ≡ X → length xs ≤ i → true ≡ X
-  unfolding apart
-  apart-end e h = rw (drop-of-length-le xs h) at e
+    pub any-passed : Left any test X xs n i → (d : A) → i < n → test (getD xs i d) ≡ false → Left any test X xs n (i + 1)
+    unfolding any
+    any-passed s d h t = record { size = s .size; rest = rw t at (here s d h) }
+
+    pub any-end : Left any test X xs n i → n ≤ i → false ≡ X
+    unfolding any
+    any-end s h = past s h
+
+  -- the same for apart: an element decides where one after it is the same
+  module _ {same : A → A → Bool} where
+    pub apart-failed : Left apart same X xs n i → (d : A) → i < n → any (same (getD xs i d)) (drop (i + 1) xs) ≡ true → false ≡ X
+    unfolding apart
+    apart-failed s d h t = rw t at (here s d h)
+
+    pub apart-passed : Left apart same X xs n i → (d : A) → i < n → any (same (getD xs i d)) (drop (i + 1) xs) ≡ false → Left apart same X xs n (i + 1)
+    unfolding apart
+    apart-passed s d h t = record { size = s .size; rest = rw t at (here s d h) }
+
+    pub apart-end : Left apart same X xs n i → n ≤ i → true ≡ X
+    unfolding apart
+    apart-end s h = past s h
 
 any-none : {A : Type 0} (test : A → Bool) (xs : List A) → any (λ x. false && test x) xs ≡ false
 unfolding any

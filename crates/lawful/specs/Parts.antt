@@ -1,9 +1,13 @@
 -- The parts of document 01's lawful desk that a function of its own tests, by the definition's words. Assumes nothing.
-use Prim.Native.Nat.{ℕ, _≤_}
-use mathlib.Core.Path.{_≡_, refl}
+use Prim.Native.Nat.{ℕ, _-_, _*_, _%_, _^_, _≤_}
+use native.Mathlib.Omega.{arith}
+use mathlib.Core.Path.{_≡_, refl, sym, ap, _∙_}
+use mathlib.Core.List.{List}
 use mathlib.Core.Bool.{Bool, true, false, _&&_}
 use lib.Dec.{eqb, leb}
-use borrow.Author.Tests.{leb-true}
+use lib.ListN.{take}
+use lib.Seq.{getD-take}
+use Rattle.template.specs.Pels.{rowBytes, rowPadded}
 use Rattle.band.specs.Band.{maxWidth}
 use Rattle.desk.specs.declared.Key.{Key}
 use Rattle.desk.specs.declared.Page.{Page}
@@ -25,10 +29,17 @@ unusedRight p = eqb (p .school) 0 && (eqb (p .class) 0 && (eqb (p .width) 0 && (
 abbrev pub freeRight : Place → Bool
 freeRight q = eqb (q .school) 0 && (eqb (q .class) 0 && isZero (q .table .entries))
 
--- both ends of a range that was tested
-both : (a b : Bool) → (a && b) ≡ true → (a ≡ true) × (b ≡ true)
-both true b e = (refl, e)
-both false b e = (e, cc)
+-- a test after a test
+pub and-goes : (a b : Bool) → a ≡ true → b ≡ (a && b)
+and-goes true b e = refl
+and-goes false b e = cc
 
-pub within-both : (low n high : ℕ) → within low n high ≡ true → (low ≤ n) × (n ≤ high)
-within-both low n high e = let t = both (leb low n) (leb n high) e in (leb-true low n (t .0), leb-true n high (t .1))
+pub and-stops : (a b : Bool) → a ≡ false → false ≡ (a && b)
+and-stops true b e = cc
+and-stops false b e = refl
+
+-- a row's padding stands in its last byte; n is the row's bytes, taken from 0 on
+pub padded-front : (width n : ℕ) (row : List ℕ) (b : Bool) → n ≡ rowBytes width → 1 ≤ width → b ≡ rowPadded width (take (n - 0) row) → rowPadded width row ≡ b
+unfolding rowPadded
+padded-front width n row b e h p =
+    sym (p ∙ ap (λ (x : ℕ). eqb (x % 2 ^ (8 * rowBytes width - width)) 0) (getD-take (n - 0) row (rowBytes width - 1) 0 (omega arith)))

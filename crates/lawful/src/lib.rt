@@ -4,8 +4,6 @@ ghost use Prim.Native.Nat.{_+_, _*_, _≤_, _<_};
 ghost use mathlib.Core.Bool.{not, _||_};
 ghost use lib.Dec.{eqb};
 ghost use lib.ListN.{length, getD, drop};
-ghost use Rattle.template.specs.Pels.{rowPadded};
-ghost use Rattle.band.specs.Band.{maxWidth};
 ghost use Rattle.desk.specs.Places.{isUsed, isPageOf, isPlaceOf, noPage, noPlace};
 ghost use Rattle.desk.specs.Lawful.{within, all, any, apart, lawfulKey, lawfulTable, isZero, noStray, lawfulPage, lawfulPlace, samePages, samePlaces, pageHasPlace, placeHasPage, lawful};
 ghost use Rattle.lawful.specs.Parts.{isUnder, openRight, unusedRight, freeRight};
@@ -14,30 +12,24 @@ use desk::Key;
 use desk::Page;
 use desk::Place;
 
+// A number from 1 to a limit.
+pub fn in_range(n: u64, high: u64) -> bool
+    ensures { λ r. ⌜ r ≡ within 1 n high ⌝ }
+{
+    if 1 <= n {
+        return n <= high;
+    }
+    false
+}
+
 // Each number 1 to 65,535.
 pub fn lawful_key(school: u64, class: u64) -> bool
     ensures { λ r. ⌜ r ≡ lawfulKey school class ⌝ }
 {
-    if school < 1 {
-        return false;
+    if in_range(school, 65535) {
+        return in_range(class, 65535);
     }
-    if school > 65535 {
-        return false;
-    }
-    if class < 1 {
-        return false;
-    }
-    class <= 65535
-}
-
-// 1 to 2,048.
-pub fn lawful_width(width: u64) -> bool
-    ensures { λ r. ⌜ r ≡ within 1 width maxWidth ⌝ }
-{
-    if width < 1 {
-        return false;
-    }
-    width <= 2048
+    false
 }
 
 // Every byte from that place on is zero.
@@ -68,29 +60,20 @@ fn low_indexes(entries: &[u8]) -> bool
     true
 }
 
-// The padding bits of a row are zero bits.
-pub fn row_padded(row: &[u8], width: usize) -> bool
-    requires { ⌜ (1 ≤ width) × (width ≤ 65535) × (width ≤ 8 * length (now row)) ⌝ }
-    ensures { λ r. ⌜ r ≡ rowPadded width (now (row .entry)) ⌝ }
-{
-    let n = template::row_bytes(width);
-    let b = row[n - 1] as u64;
-    b % (1u64 << (8 * n - width)) == 0
-}
-
 // Neither a padding bit nor a byte after the row is set.
 fn no_stray(last: &[u8], width: usize) -> bool
     requires { ⌜ (1 ≤ width) × (width ≤ 65535) × (width ≤ 8 * length (now last)) ⌝ }
     ensures { λ r. ⌜ r ≡ noStray width (now (last .entry)) ⌝ }
 {
-    if !row_padded(last, width) {
+    let n = template::row_bytes(width);
+    if !template::row_padded(&last[0..n], width) {
         return false;
     }
-    zero_from(last, template::row_bytes(width))
+    zero_from(last, n)
 }
 
 // Whether what has that state and that key is used, and under the key asked for.
-pub fn is_under(state: u64, school: u64, class: u64, key: Key) -> bool
+fn is_under(state: u64, school: u64, class: u64, key: Key) -> bool
     ensures { λ r. ⌜ r ≡ isUnder state school class key ⌝ }
 {
     if state == 0 {
@@ -112,7 +95,7 @@ fn open_right(p: Page) -> bool
     if !lawful_key(p.school, p.class) {
         return false;
     }
-    if !lawful_width(p.width) {
+    if !in_range(p.width, 2048) {
         return false;
     }
     let entries = p.table.entries;

@@ -1,58 +1,41 @@
 -- Abandon answers and leaves the desk as document 01 says. Assumes nothing.
-use mathlib.Core.Path.{sym, ap, _∙_}
+use mathlib.Core.Path.{_≡_, sym, ap, _∙_}
 use Prim.Native.Nat.{_<_}
 use native.Mathlib.Omega.{arith}
+use Rattle.calls.specs.Refusing.{FirstTwo, first-two}
 use Rattle.calls.specs.Leaving.{leave-early, leave-none, leave-none-not, abandon-refused, abandon-done, abandons-taught, abandons-new}
-use Rattle.desk.specs.Places.{isFound}
+use Rattle.desk.specs.declared.Found.the-variants.{At}
+use Rattle.desk.specs.Places.{isFound, pageFound}
 use borrow.Author.Needs.{needs}
 use Rattle.calls.proofs.abandon_when.Statement.{statement}
 use Rattle.calls.proofs.abandon_when.Tie as tie
 
+-- the first two tests, of this desk and key
+asked : (c : tie.After-early-refusal) → let a = c .before .args in FirstTwo (a .d) (a .key) (c .early-refusal .result)
+asked c = let a = c .before .args in first-two (a .d) (a .key) (a .good) (c .early-refusal .result) (c .before .pre) (c .early-refusal .ensures)
+
+-- where it was found
+slot : (c : tie.After-known-told) → let a = c .before .before .before .before .before .before .before .args in pageFound (a .d) (a .key) ≡ At (c .before .i .given .0 .0)
+slot c = sym (c .before .before .before .find-page .ensures .0) ∙ c .before .i .given .1
+
 -- what was found is within
 within : (c : tie.After-known-told) → c .before .i .given .0 .0 < 4
 within c = rw (c .before .i .given .1) at (c .before .before .before .find-page .ensures .1)
-
-early-refusal-requires : tie.Need-early-refusal-requires
-early-refusal-requires c κs = search needs
-
-refused-requires : tie.Need-refused-requires
-refused-requires c κs = search needs
 
 returns : tie.Need-returns
 returns c =
     let a = c .before .before .before .args in
     let r = c .before .before .early-refusal in
     c .refused .ensures ∙ abandon-refused (a .d) (a .key) (r .result)
-    (leave-early (a .d) (a .key) (a .good) (r .result) (c .before .before .before .pre) (r .ensures) (c .before .if1 .taken)) (c .before .if1 .taken)
-
-find-page-requires : tie.Need-find-page-requires
-find-page-requires c κs = search needs
-
-enum-known-i : tie.Need-enum-known-i
-enum-known-i c = search needs
-
-enum-told : tie.Need-enum-told
-enum-told c = search needs
-
-refused-requires-2 : tie.Need-refused-requires-2
-refused-requires-2 c κs = search needs
+    (leave-early (a .d) (a .key) (r .result) (asked (c .before .before)) (c .before .if1 .taken)) (c .before .if1 .taken)
 
 returns-2 : tie.Need-returns-2
 returns-2 c =
     let a = c .before .before .before .before .before .before .before .args in
     let r = c .before .before .before .before .before .before .early-refusal in
-    c .refused2 .ensures ∙ abandon-refused (a .d) (a .key) 2 (leave-none (a .d) (a .key) (a .good) (r .result)
-    (c .before .before .before .before .before .before .before .pre) (r .ensures) (c .before .before .before .before .before .if1 .left)
+    c .refused2 .ensures ∙ abandon-refused (a .d) (a .key) 2 (leave-none (a .d) (a .key) (r .result) (asked
+    (c .before .before .before .before .before .before)) (c .before .before .before .before .before .if1 .left)
     (sym (c .before .before .before .find-page .ensures .0) ∙ c .before .enum-told .given .1)) (λ z. omega arith)
-
-unused-page-requires : tie.Need-unused-page-requires
-unused-page-requires c κs = search needs
-
-find-table-requires : tie.Need-find-table-requires
-find-table-requires c κs = search needs
-
-is-found-requires : tie.Need-is-found-requires
-is-found-requires c κs = search needs
 
 mul-unused : tie.Need-mul-unused
 mul-unused c = let h = within (c .before .before .before .before .before) in omega arith
@@ -60,34 +43,21 @@ mul-unused c = let h = within (c .before .before .before .before .before) in ome
 element-set-from-unused : tie.Need-element-set-from-unused
 element-set-from-unused c = within (c .before .before .before .before .before)
 
-done-requires : tie.Need-done-requires
-done-requires c κs = search needs
-
 returns-3 : tie.Need-returns-3
 returns-3 c =
     let a = c .before .before .before .before .before .before .before .before .before .before .before .before .before .args in
     let r = c .before .before .before .before .before .before .before .before .before .before .before .before .early-refusal in
     c .done .ensures
-    ∙ abandon-done (a .d) (a .key) _ (leave-none-not (a .d) (a .key) (a .good) (r .result)
-    (c .before .before .before .before .before .before .before .before .before .before .before .before .before .pre) (r .ensures)
+    ∙ abandon-done (a .d) (a .key) _ (leave-none-not (a .d) (a .key) (r .result) (asked
+    (c .before .before .before .before .before .before .before .before .before .before .before .before))
     (c .before .before .before .before .before .before .before .before .before .before .before .if1 .left)
     (c .before .before .before .before .before .before .before .i .given .0 .0)
-    (sym (c .before .before .before .before .before .before .before .before .before .find-page .ensures .0)
-    ∙ c .before .before .before .before .before .before .before .i .given .1))
-    (abandons-taught (a .d) (a .key) (c .before .before .before .before .before .before .before .i .given .0 .0) (c .before .before .before .before .unused-page .result)
-    (sym (c .before .before .before .before .before .before .before .before .before .find-page .ensures .0)
-    ∙ c .before .before .before .before .before .before .before .i .given .1)
+    (slot (c .before .before .before .before .before .before)))
+    (abandons-taught (a .d) (a .key) (c .before .before .before .before .before .before .before .i .given .0 .0)
+    (c .before .before .before .before .unused-page .result)
+    (slot (c .before .before .before .before .before .before))
     (ap isFound (sym (c .before .before .before .find-table .ensures .0)) ∙ sym (c .before .before .is-found .ensures) ∙ c .before .if2 .taken)
     (c .before .before .before .before .unused-page .ensures))
-
-vacant-place-requires : tie.Need-vacant-place-requires
-vacant-place-requires c κs = search needs
-
-find-place-requires : tie.Need-find-place-requires
-find-place-requires c κs = search needs
-
-with-place-requires : tie.Need-with-place-requires
-with-place-requires c κs = search needs
 
 mul-unused-2 : tie.Need-mul-unused-2
 mul-unused-2 c = let h = within (c .before .before .before .before .before .before .before .before) in omega arith
@@ -95,26 +65,22 @@ mul-unused-2 c = let h = within (c .before .before .before .before .before .befo
 element-set-from-unused-2 : tie.Need-element-set-from-unused-2
 element-set-from-unused-2 c = within (c .before .before .before .before .before .before .before .before)
 
-done-requires-2 : tie.Need-done-requires-2
-done-requires-2 c κs = search needs
-
 returns-4 : tie.Need-returns-4
 returns-4 c =
     let a = c .before .before .before .before .before .before .before .before .before .before .before .before .before .before .before .before .args in
     let r = c .before .before .before .before .before .before .before .before .before .before .before .before .before .before .before .early-refusal in
     c .done2 .ensures
-    ∙ abandon-done (a .d) (a .key) _ (leave-none-not (a .d) (a .key) (a .good) (r .result)
-    (c .before .before .before .before .before .before .before .before .before .before .before .before .before .before .before .before .pre) (r .ensures)
+    ∙ abandon-done (a .d) (a .key) _ (leave-none-not (a .d) (a .key) (r .result) (asked
+    (c .before .before .before .before .before .before .before .before .before .before .before .before .before .before .before))
     (c .before .before .before .before .before .before .before .before .before .before .before .before .before .before .if1 .left)
     (c .before .before .before .before .before .before .before .before .before .before .i .given .0 .0)
-    (sym (c .before .before .before .before .before .before .before .before .before .before .before .before .find-page .ensures .0)
-    ∙ c .before .before .before .before .before .before .before .before .before .before .i .given .1))
+    (slot (c .before .before .before .before .before .before .before .before .before)))
     (abandons-new (a .d) (a .key) (c .before .before .before .before .before .before .before .before .before .before .i .given .0 .0)
     (c .before .before .find-place .result) (c .before .before .before .vacant-place .result) (c .before .with-place .result)
     (c .before .before .before .before .before .before .before .unused-page .result)
-    (sym (c .before .before .before .before .before .before .before .before .before .before .before .before .find-page .ensures .0)
-    ∙ c .before .before .before .before .before .before .before .before .before .before .i .given .1)
-    (ap isFound (sym (c .before .before .before .before .before .before .find-table .ensures .0)) ∙ sym (c .before .before .before .before .before .is-found .ensures)
+    (slot (c .before .before .before .before .before .before .before .before .before))
+    (ap isFound (sym (c .before .before .before .before .before .before .find-table .ensures .0)) ∙ sym
+    (c .before .before .before .before .before .is-found .ensures)
     ∙ c .before .before .before .before .if2 .left)
     (c .before .before .find-place .ensures .0) (c .before .before .before .vacant-place .ensures) (c .before .with-place .ensures)
     (c .before .before .before .before .before .before .before .unused-page .ensures))
@@ -122,26 +88,7 @@ returns-4 c =
 pub abandon-when-spec : {M : Type 1} → statement M
 abandon-when-spec =
     tie.close
-    (tie.spec
-    early-refusal-requires
-    refused-requires
-    returns
-    find-page-requires
-    enum-known-i
-    enum-told
-    refused-requires-2
-    returns-2
-    unused-page-requires
-    find-table-requires
-    is-found-requires
-    mul-unused
-    element-set-from-unused
-    done-requires
-    returns-3
-    vacant-place-requires
-    find-place-requires
-    with-place-requires
-    mul-unused-2
-    element-set-from-unused-2
-    done-requires-2
-    returns-4)
+    (tie.spec (λ c κs. search needs) (λ c κs. search needs) returns (λ c κs. search needs) (λ c. search needs) (λ c. search needs)
+    (λ c κs. search needs) returns-2 (λ c κs. search needs) (λ c κs. search needs) (λ c κs. search needs) mul-unused element-set-from-unused
+    (λ c κs. search needs) returns-3 (λ c κs. search needs) (λ c κs. search needs) (λ c κs. search needs) mul-unused-2 element-set-from-unused-2
+    (λ c κs. search needs) returns-4)

@@ -1,51 +1,41 @@
 -- Close answers and leaves the desk as document 01 says. Assumes nothing.
-use mathlib.Core.Path.{sym, _∙_}
+use mathlib.Core.Path.{_≡_, sym, _∙_}
 use Prim.Native.Nat.{_<_}
 use native.Mathlib.Omega.{arith}
+use Rattle.desk.specs.declared.Found.the-variants.{At}
+use Rattle.desk.specs.Places.{pageFound}
+use Rattle.calls.specs.Refusing.{FirstTwo, first-two}
 use Rattle.calls.specs.Leaving.{leave-early, leave-none, leave-none-not, close-refused, close-done, closes}
 use borrow.Author.Needs.{needs}
 use Rattle.calls.proofs.close_when.Statement.{statement}
 use Rattle.calls.proofs.close_when.Tie as tie
 
+-- the first two tests, of this desk and key
+asked : (c : tie.After-early-refusal) → let a = c .before .args in FirstTwo (a .d) (a .key) (c .early-refusal .result)
+asked c = let a = c .before .args in first-two (a .d) (a .key) (a .good) (c .early-refusal .result) (c .before .pre) (c .early-refusal .ensures)
+
+-- where it was found
+slot : (c : tie.After-known-told) → let a = c .before .before .before .before .before .before .before .args in pageFound (a .d) (a .key) ≡ At (c .before .i .given .0 .0)
+slot c = sym (c .before .before .before .find-page .ensures .0) ∙ c .before .i .given .1
+
 -- what was found is within
 within : (c : tie.After-known-told) → c .before .i .given .0 .0 < 4
 within c = rw (c .before .i .given .1) at (c .before .before .before .find-page .ensures .1)
-
-early-refusal-requires : tie.Need-early-refusal-requires
-early-refusal-requires c κs = search needs
-
-refused-requires : tie.Need-refused-requires
-refused-requires c κs = search needs
 
 returns : tie.Need-returns
 returns c =
     let a = c .before .before .before .args in
     let r = c .before .before .early-refusal in
     c .refused .ensures ∙ close-refused (a .d) (a .key) (r .result)
-    (leave-early (a .d) (a .key) (a .good) (r .result) (c .before .before .before .pre) (r .ensures) (c .before .if1 .taken)) (c .before .if1 .taken)
-
-find-page-requires : tie.Need-find-page-requires
-find-page-requires c κs = search needs
-
-enum-known-i : tie.Need-enum-known-i
-enum-known-i c = search needs
-
-enum-told : tie.Need-enum-told
-enum-told c = search needs
-
-refused-requires-2 : tie.Need-refused-requires-2
-refused-requires-2 c κs = search needs
+    (leave-early (a .d) (a .key) (r .result) (asked (c .before .before)) (c .before .if1 .taken)) (c .before .if1 .taken)
 
 returns-2 : tie.Need-returns-2
 returns-2 c =
     let a = c .before .before .before .before .before .before .before .args in
     let r = c .before .before .before .before .before .before .early-refusal in
-    c .refused2 .ensures ∙ close-refused (a .d) (a .key) 2 (leave-none (a .d) (a .key) (a .good) (r .result)
-    (c .before .before .before .before .before .before .before .pre) (r .ensures) (c .before .before .before .before .before .if1 .left)
+    c .refused2 .ensures ∙ close-refused (a .d) (a .key) 2 (leave-none (a .d) (a .key) (r .result) (asked
+    (c .before .before .before .before .before .before)) (c .before .before .before .before .before .if1 .left)
     (sym (c .before .before .before .find-page .ensures .0) ∙ c .before .enum-told .given .1)) (λ z. omega arith)
-
-find-place-requires : tie.Need-find-place-requires
-find-place-requires c κs = search needs
 
 mul-page : tie.Need-mul-page
 mul-page c = let h = within (c .before .before) in omega arith
@@ -53,60 +43,31 @@ mul-page c = let h = within (c .before .before) in omega arith
 array-copy-out-page : tie.Need-array-copy-out-page
 array-copy-out-page c = within (c .before .before)
 
-unused-page-requires : tie.Need-unused-page-requires
-unused-page-requires c κs = search needs
-
-learned-place-requires : tie.Need-learned-place-requires
-learned-place-requires c κs = search needs
-
-with-place-requires : tie.Need-with-place-requires
-with-place-requires c κs = search needs
-
 mul-unused : tie.Need-mul-unused
 mul-unused c = let h = within (c .before .before .before .before .before .before) in omega arith
 
 element-set-from-unused : tie.Need-element-set-from-unused
 element-set-from-unused c = within (c .before .before .before .before .before .before)
 
-done-requires : tie.Need-done-requires
-done-requires c κs = search needs
-
 returns-3 : tie.Need-returns-3
 returns-3 c =
     let a = c .before .before .before .before .before .before .before .before .before .before .before .before .before .before .args in
     let r = c .before .before .before .before .before .before .before .before .before .before .before .before .before .early-refusal in
     c .done .ensures
-    ∙ close-done (a .d) (a .key) _ (leave-none-not (a .d) (a .key) (a .good) (r .result)
-    (c .before .before .before .before .before .before .before .before .before .before .before .before .before .before .pre) (r .ensures)
+    ∙ close-done (a .d) (a .key) _ (leave-none-not (a .d) (a .key) (r .result) (asked
+    (c .before .before .before .before .before .before .before .before .before .before .before .before .before))
     (c .before .before .before .before .before .before .before .before .before .before .before .before .if1 .left)
     (c .before .before .before .before .before .before .before .before .i .given .0 .0)
-    (sym (c .before .before .before .before .before .before .before .before .before .before .find-page .ensures .0)
-    ∙ c .before .before .before .before .before .before .before .before .i .given .1))
+    (slot (c .before .before .before .before .before .before .before)))
     (closes (a .d) (a .key) (c .before .before .before .before .before .before .before .before .i .given .0 .0)
     (c .before .before .before .before .before .find-place .result) (c .before .before .learned-place .result) (c .before .with-place .result)
-    (c .before .before .before .unused-page .result) (sym (c .before .before .before .before .before .before .before .before .before .before .find-page .ensures .0)
-    ∙ c .before .before .before .before .before .before .before .before .i .given .1) (c .before .before .before .before .before .find-place .ensures .0)
+    (c .before .before .before .unused-page .result) (slot (c .before .before .before .before .before .before .before))
+    (c .before .before .before .before .before .find-place .ensures .0)
     (c .before .before .learned-place .ensures) (c .before .with-place .ensures) (c .before .before .before .unused-page .ensures))
 
 pub close-when-spec : {M : Type 1} → statement M
 close-when-spec =
     tie.close
-    (tie.spec
-    early-refusal-requires
-    refused-requires
-    returns
-    find-page-requires
-    enum-known-i
-    enum-told
-    refused-requires-2
-    returns-2
-    find-place-requires
-    mul-page
-    array-copy-out-page
-    unused-page-requires
-    learned-place-requires
-    with-place-requires
-    mul-unused
-    element-set-from-unused
-    done-requires
-    returns-3)
+    (tie.spec (λ c κs. search needs) (λ c κs. search needs) returns (λ c κs. search needs) (λ c. search needs) (λ c. search needs)
+    (λ c κs. search needs) returns-2 (λ c κs. search needs) mul-page array-copy-out-page (λ c κs. search needs) (λ c κs. search needs)
+    (λ c κs. search needs) mul-unused element-set-from-unused (λ c κs. search needs) returns-3)

@@ -1,72 +1,53 @@
 -- Drop answers and leaves the desk as document 01 says. Assumes nothing.
-use mathlib.Core.Path.{sym, ap, _∙_}
+use mathlib.Core.Path.{_≡_, sym, ap, _∙_}
 use Prim.Native.Nat.{_<_}
 use native.Mathlib.Omega.{arith}
+use Rattle.calls.specs.Refusing.{FirstTwo, first-two}
 use Rattle.calls.specs.Tables.{drop-early, drop-opened, drop-untaught, drop-end, drop-refused, drop-done}
-use Rattle.desk.specs.Places.{isFound}
+use Rattle.desk.specs.declared.Found.the-variants.{At}
+use Rattle.desk.specs.Places.{isFound, tableFound}
 use borrow.Author.Needs.{needs}
 use Rattle.calls.proofs.drop_when.Statement.{statement}
 use Rattle.calls.proofs.drop_when.Tie as tie
 
+-- the first two tests, of this desk and key
+asked : (c : tie.After-early-refusal) → let a = c .before .args in FirstTwo (a .d) (a .key) (c .early-refusal .result)
+asked c = let a = c .before .args in first-two (a .d) (a .key) (a .good) (c .early-refusal .result) (c .before .pre) (c .early-refusal .ensures)
+
+-- where it was found
+slot : (c : tie.After-known-told) → let a = c .before .before .before .before .before .before .before .before .before .before .before .args in tableFound (a .d) (a .key) ≡ At (c .before .i .given .0 .0)
+slot c = sym (c .before .before .before .find-table .ensures .0) ∙ c .before .i .given .1
+
 -- what was found is within
 within : (c : tie.After-known-told) → c .before .i .given .0 .0 < 8
 within c = rw (c .before .i .given .1) at (c .before .before .before .find-table .ensures .1)
-
-early-refusal-requires : tie.Need-early-refusal-requires
-early-refusal-requires c κs = search needs
-
-refused-requires : tie.Need-refused-requires
-refused-requires c κs = search needs
 
 returns : tie.Need-returns
 returns c =
     let a = c .before .before .before .args in
     let r = c .before .before .early-refusal in
     c .refused .ensures ∙ drop-refused (a .d) (a .key) (r .result)
-    (drop-early (a .d) (a .key) (a .good) (r .result) (c .before .before .before .pre) (r .ensures) (c .before .if1 .taken)) (c .before .if1 .taken)
-
-find-page-requires : tie.Need-find-page-requires
-find-page-requires c κs = search needs
-
-is-found-requires : tie.Need-is-found-requires
-is-found-requires c κs = search needs
-
-refused-requires-2 : tie.Need-refused-requires-2
-refused-requires-2 c κs = search needs
+    (drop-early (a .d) (a .key) (r .result) (asked (c .before .before)) (c .before .if1 .taken)) (c .before .if1 .taken)
 
 returns-2 : tie.Need-returns-2
 returns-2 c =
     let a = c .before .before .before .before .before .before .before .args in
     let r = c .before .before .before .before .before .before .early-refusal in
-    c .refused2 .ensures ∙ drop-refused (a .d) (a .key) 3 (drop-opened (a .d) (a .key) (a .good) (r .result)
-    (c .before .before .before .before .before .before .before .pre) (r .ensures) (c .before .before .before .before .before .if1 .left)
-    (ap isFound (sym (c .before .before .before .find-page .ensures .0)) ∙ sym (c .before .before .is-found .ensures) ∙ c .before .if2 .taken)) (λ z. omega arith)
-
-find-table-requires : tie.Need-find-table-requires
-find-table-requires c κs = search needs
-
-enum-known-i : tie.Need-enum-known-i
-enum-known-i c = search needs
-
-enum-told : tie.Need-enum-told
-enum-told c = search needs
-
-refused-requires-3 : tie.Need-refused-requires-3
-refused-requires-3 c κs = search needs
+    c .refused2 .ensures ∙ drop-refused (a .d) (a .key) 3 (drop-opened (a .d) (a .key) (r .result) (asked
+    (c .before .before .before .before .before .before)) (c .before .before .before .before .before .if1 .left)
+    (ap isFound (sym (c .before .before .before .find-page .ensures .0)) ∙ sym (c .before .before .is-found .ensures) ∙ c .before .if2 .taken)) (λ z.
+    omega arith)
 
 returns-3 : tie.Need-returns-3
 returns-3 c =
     let a = c .before .before .before .before .before .before .before .before .before .before .before .args in
     let r = c .before .before .before .before .before .before .before .before .before .before .early-refusal in
-    c .refused3 .ensures ∙ drop-refused (a .d) (a .key) 11 (drop-untaught (a .d) (a .key) (a .good) (r .result)
-    (c .before .before .before .before .before .before .before .before .before .before .before .pre) (r .ensures)
+    c .refused3 .ensures ∙ drop-refused (a .d) (a .key) 11 (drop-untaught (a .d) (a .key) (r .result) (asked
+    (c .before .before .before .before .before .before .before .before .before .before))
     (c .before .before .before .before .before .before .before .before .before .if1 .left)
     (ap isFound (sym (c .before .before .before .before .before .before .before .find-page .ensures .0)) ∙ sym
     (c .before .before .before .before .before .before .is-found .ensures) ∙ c .before .before .before .before .before .if2 .left)
     (sym (c .before .before .before .find-table .ensures .0) ∙ c .before .enum-told .given .1)) (λ z. omega arith)
-
-vacant-place-requires : tie.Need-vacant-place-requires
-vacant-place-requires c κs = search needs
 
 mul-free : tie.Need-mul-free
 mul-free c = let h = within (c .before) in omega arith
@@ -74,40 +55,23 @@ mul-free c = let h = within (c .before) in omega arith
 element-set-from-free : tie.Need-element-set-from-free
 element-set-from-free c = within (c .before)
 
-done-requires : tie.Need-done-requires
-done-requires c κs = search needs
-
 returns-4 : tie.Need-returns-4
 returns-4 c =
     let a = c .before .before .before .before .before .before .before .before .before .before .before .before .before .args in
     let r = c .before .before .before .before .before .before .before .before .before .before .before .before .early-refusal in
     c .done .ensures
     ∙ drop-done (a .d) (a .key) (c .before .before .before .i .given .0 .0) (c .before .vacant-place .result)
-    (drop-end (a .d) (a .key) (a .good) (r .result) (c .before .before .before .before .before .before .before .before .before .before .before .before .before .pre)
-    (r .ensures) (c .before .before .before .before .before .before .before .before .before .before .before .if1 .left)
+    (drop-end (a .d) (a .key) (r .result) (asked (c .before .before .before .before .before .before .before .before .before .before .before .before))
+    (c .before .before .before .before .before .before .before .before .before .before .before .if1 .left)
     (ap isFound (sym (c .before .before .before .before .before .before .before .before .before .find-page .ensures .0)) ∙ sym
-    (c .before .before .before .before .before .before .before .before .is-found .ensures) ∙ c .before .before .before .before .before .before .before .if2 .left)
-    (c .before .before .before .i .given .0 .0) (sym (c .before .before .before .before .before .find-table .ensures .0) ∙ c .before .before .before .i .given .1))
-    (sym (c .before .before .before .before .before .find-table .ensures .0) ∙ c .before .before .before .i .given .1) (c .before .vacant-place .ensures)
+    (c .before .before .before .before .before .before .before .before .is-found .ensures) ∙
+    c .before .before .before .before .before .before .before .if2 .left)
+    (c .before .before .before .i .given .0 .0) (slot (c .before .before)))
+    (slot (c .before .before)) (c .before .vacant-place .ensures)
 
 pub drop-when-spec : {M : Type 1} → statement M
 drop-when-spec =
     tie.close
-    (tie.spec
-    early-refusal-requires
-    refused-requires
-    returns
-    find-page-requires
-    is-found-requires
-    refused-requires-2
-    returns-2
-    find-table-requires
-    enum-known-i
-    enum-told
-    refused-requires-3
-    returns-3
-    vacant-place-requires
-    mul-free
-    element-set-from-free
-    done-requires
-    returns-4)
+    (tie.spec (λ c κs. search needs) (λ c κs. search needs) returns (λ c κs. search needs) (λ c κs. search needs) (λ c κs. search needs) returns-2
+    (λ c κs. search needs) (λ c. search needs) (λ c. search needs) (λ c κs. search needs) returns-3 (λ c κs. search needs) mul-free
+    element-set-from-free (λ c κs. search needs) returns-4)

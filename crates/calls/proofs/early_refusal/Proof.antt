@@ -4,12 +4,6 @@ use borrow.Author.Needs.{needs}
 use Rattle.calls.proofs.early_refusal.Statement.{statement}
 use Rattle.calls.proofs.early_refusal.Tie as tie
 
-returns : tie.Need-returns
-returns c = search needs
-
-lawful-key-requires : tie.Need-lawful-key-requires
-lawful-key-requires c κs = search needs
-
 returns-2 : tie.Need-returns-2
 returns-2 c = let l = c .before .lawful-key in rw (
   not-false (c .before .before .before .args .good) (c .before .before .if1 .left),
@@ -27,4 +21,4 @@ returns-3 c = let l = c .before .lawful-key in rw (
 )
 
 pub early-refusal-spec : {M : Type 1} → statement M
-early-refusal-spec = tie.close (tie.spec returns lawful-key-requires returns-2 returns-3)
+early-refusal-spec = tie.close (tie.spec (λ c. search needs) (λ c κs. search needs) returns-2 returns-3)

@@ -1,74 +1,58 @@
 -- Look answers and fills the lent buffer as document 01 says. Assumes nothing.
-use mathlib.Core.Path.{refl, sym, _∙_}
+use mathlib.Core.Path.{_≡_, refl, sym, _∙_}
 use Prim.Native.Nat.{_<_}
 use native.Mathlib.Omega.{arith}
+use Rattle.desk.specs.declared.Found.the-variants.{At}
+use Rattle.desk.specs.Places.{tableFound}
+use Rattle.calls.specs.Refusing.{FirstTwo, first-two}
 use Rattle.calls.specs.Tables.{look-early, look-early-keeps, look-untaught, look-room, look-end, look-refused, look-keeps, look-clears, look-done, look-shows}
 use borrow.Author.Needs.{needs}
 use Rattle.calls.proofs.look_when.Statement.{statement}
 use Rattle.calls.proofs.look_when.Tie as tie
 
+-- the first two tests, of this desk and key
+asked : (c : tie.After-early-refusal) → let a = c .before .before .args in FirstTwo (a .d) (a .key) (c .early-refusal .result)
+asked c = let a = c .before .before .args in first-two (a .d) (a .key) (a .good) (c .early-refusal .result) (c .before .before .pre) (c .early-refusal .ensures)
+
+-- where it was found
+slot : (c : tie.After-known-told) → let a = c .before .before .before .before .before .before .before .before .args in tableFound (a .d) (a .key) ≡ At (c .before .i .given .0 .0)
+slot c = sym (c .before .before .before .find-table .ensures .0) ∙ c .before .i .given .1
+
 -- what was found is within
 within : (c : tie.After-known-told) → c .before .i .given .0 .0 < 8
 within c = rw (c .before .i .given .1) at (c .before .before .before .find-table .ensures .1)
-
-early-refusal-requires : tie.Need-early-refusal-requires
-early-refusal-requires c κs = search needs
-
-refused-requires : tie.Need-refused-requires
-refused-requires c κs = search needs
 
 returns : tie.Need-returns
 returns c =
     let a = c .before .before .before .before .args in
     let r = c .before .before .early-refusal in
-    let e = look-early (a .d) (a .key) (a .good) (r .result) (c .before .before .before .before .pre) (r .ensures) (a .out .now) (c .before .if1 .taken) in (
+    let e = look-early (a .d) (a .key) (r .result) (asked (c .before .before)) (a .out .now) (c .before .if1 .taken) in (
       c .refused .ensures ∙ look-refused (a .d) (a .key) (a .out .now) (r .result) e (c .before .if1 .taken),
       look-keeps (a .d) (a .key) (a .out .now) (r .result) e
-          (c .before .if1 .taken) (look-early-keeps (a .d) (a .key) (a .good) (r .result) (c .before .before .before .before .pre) (r .ensures) (a .out .now)),
+          (c .before .if1 .taken) (look-early-keeps (a .d) (a .key) (r .result) (asked (c .before .before)) (a .out .now)),
     )
-
-find-table-requires : tie.Need-find-table-requires
-find-table-requires c κs = search needs
-
-enum-known-i : tie.Need-enum-known-i
-enum-known-i c = search needs
-
-enum-told : tie.Need-enum-told
-enum-told c = search needs
-
-refused-requires-2 : tie.Need-refused-requires-2
-refused-requires-2 c κs = search needs
 
 returns-2 : tie.Need-returns-2
 returns-2 c =
     let a = c .before .before .before .before .before .before .before .before .args in
     let r = c .before .before .before .before .before .before .early-refusal in
-    let e = look-untaught (a .d) (a .key) (a .good) (r .result) (c .before .before .before .before .before .before .before .before .pre) (r .ensures) (a .out .now)
+    let e = look-untaught (a .d) (a .key) (r .result) (asked (c .before .before .before .before .before .before))
+    (a .out .now)
     (c .before .before .before .before .before .if1 .left) (sym (c .before .before .before .find-table .ensures .0) ∙ c .before .enum-told .given .1) in (
       c .refused2 .ensures ∙ look-refused (a .d) (a .key) (a .out .now) 11 e (λ z. omega arith),
       look-keeps (a .d) (a .key) (a .out .now) 11 e (λ z. omega arith)
           (λ z. omega arith, λ z. omega arith),
     )
 
-clear-requires : tie.Need-clear-requires
-clear-requires c κs = search needs
-
-refused-requires-3 : tie.Need-refused-requires-3
-refused-requires-3 c κs = search needs
-
-same-length : tie.Need-same-length
-same-length c = search needs
-
 returns-3 : tie.Need-returns-3
 returns-3 c =
     let a = c .before .before .before .before .before .before .before .before .before .before .before .before .before .before .args in
     let r = c .before .before .before .before .before .before .before .before .before .before .before .before .early-refusal in
-    let e = look-room (a .d) (a .key) (a .good) (r .result)
-    (c .before .before .before .before .before .before .before .before .before .before .before .before .before .before .pre) (r .ensures) (a .out .now)
+    let e = look-room (a .d) (a .key) (r .result) (asked
+    (c .before .before .before .before .before .before .before .before .before .before .before .before)) (a .out .now)
     (c .before .before .before .before .before .before .before .before .before .before .before .if1 .left)
     (c .before .before .before .before .before .before .before .i .given .0 .0)
-    (sym (c .before .before .before .before .before .before .before .before .before .find-table .ensures .0)
-    ∙ c .before .before .before .before .before .before .before .i .given .1) (c .before .before .before .before .before .if2 .taken) in (
+    (slot (c .before .before .before .before .before .before)) (c .before .before .before .before .before .if2 .taken) in (
       c .refused3 .ensures ∙ look-refused (a .d) (a .key) (a .out .now) 9 e (λ z. omega arith),
       c .before .before .before .clear .ensures ∙ look-clears (a .d) (a .key)
           (a .out .now) e,
@@ -80,51 +64,24 @@ mul-place c = let h = within (c .before) in omega arith
 array-copy-out-place : tie.Need-array-copy-out-place
 array-copy-out-place c = within (c .before)
 
-show-table-requires : tie.Need-show-table-requires
-show-table-requires c κs = search needs
-
-done-requires : tie.Need-done-requires
-done-requires c κs = search needs
-
-same-length-2 : tie.Need-same-length-2
-same-length-2 c = search needs
-
 returns-4 : tie.Need-returns-4
 returns-4 c =
     let a = c .before .before .before .before .before .before .before .before .before .before .before .before .before .before .before .args in
     let r = c .before .before .before .before .before .before .before .before .before .before .before .before .before .early-refusal in
-    let e = look-end (a .d) (a .key) (a .good) (r .result)
-    (c .before .before .before .before .before .before .before .before .before .before .before .before .before .before .before .pre) (r .ensures) (a .out .now)
+    let e = look-end (a .d) (a .key) (r .result) (asked
+    (c .before .before .before .before .before .before .before .before .before .before .before .before .before)) (a .out .now)
     (c .before .before .before .before .before .before .before .before .before .before .before .before .if1 .left)
     (c .before .before .before .before .before .before .before .before .i .given .0 .0)
-    (sym (c .before .before .before .before .before .before .before .before .before .before .find-table .ensures .0)
-    ∙ c .before .before .before .before .before .before .before .before .i .given .1) (c .before .before .before .before .before .before .if2 .left) in (
+    (slot (c .before .before .before .before .before .before .before)) (c .before .before .before .before .before .before .if2 .left) in (
       c .done .ensures ∙ look-done (a .d) (a .key) (a .out .now) e,
       c .before .before .before .show-table .ensures ∙ look-shows (a .d) (a .key) (a .out .now)
           (c .before .before .before .before .before .before .before .before .i .given .0 .0) _ e
-          (sym (c .before .before .before .before .before .before .before .before .before .before .find-table .ensures .0)
-          ∙ c .before .before .before .before .before .before .before .before .i .given .1) refl,
+          (slot (c .before .before .before .before .before .before .before)) refl,
     )
 
 pub look-when-spec : {M : Type 1} → statement M
 look-when-spec =
     tie.close
-    (tie.spec
-    early-refusal-requires
-    refused-requires
-    returns
-    find-table-requires
-    enum-known-i
-    enum-told
-    refused-requires-2
-    returns-2
-    clear-requires
-    refused-requires-3
-    same-length
-    returns-3
-    mul-place
-    array-copy-out-place
-    show-table-requires
-    done-requires
-    same-length-2
-    returns-4)
+    (tie.spec (λ c κs. search needs) (λ c κs. search needs) returns (λ c κs. search needs) (λ c. search needs) (λ c. search needs)
+    (λ c κs. search needs) returns-2 (λ c κs. search needs) (λ c κs. search needs) (λ c. search needs) returns-3 mul-place array-copy-out-place
+    (λ c κs. search needs) (λ c κs. search needs) (λ c. search needs) returns-4)

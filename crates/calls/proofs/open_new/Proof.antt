@@ -11,45 +11,15 @@ use Rattle.calls.proofs.open_new.Tie as tie
 within : (c : tie.After-known-told) → c .before .j .given .0 .0 < 8
 within c = rw (c .before .j .given .1) at (c .before .before .before .free-place .ensures .1)
 
-free-place-requires : tie.Need-free-place-requires
-free-place-requires c κs = search needs
-
-enum-known-j : tie.Need-enum-known-j
-enum-known-j c = search needs
-
-enum-told : tie.Need-enum-told
-enum-told c = search needs
-
-refused-requires : tie.Need-refused-requires
-refused-requires c κs = search needs
-
 returns : tie.Need-returns
 returns c = let a = c .before .before .before .before .before .args in
     c .refused .ensures ∙ new-refused (a .d) (a .ask) (a .i) (sym (c .before .before .before .free-place .ensures .0) ∙ c .before .enum-told .given .1)
-
-reserved-place-requires : tie.Need-reserved-place-requires
-reserved-place-requires c κs = search needs
-
-fresh-requires : tie.Need-fresh-requires
-fresh-requires c κs = search needs
-
-page-from-requires : tie.Need-page-from-requires
-page-from-requires c κs = search needs
 
 mul-reserved : tie.Need-mul-reserved
 mul-reserved c = let h = within (c .before .before .before) in omega arith
 
 element-set-from-reserved : tie.Need-element-set-from-reserved
 element-set-from-reserved c = within (c .before .before .before)
-
-mul-opened : tie.Need-mul-opened
-mul-opened c = search needs
-
-element-set-from-opened : tie.Need-element-set-from-opened
-element-set-from-opened c = search needs
-
-done-requires : tie.Need-done-requires
-done-requires c κs = search needs
 
 returns-2 : tie.Need-returns-2
 returns-2 c =
@@ -63,18 +33,6 @@ returns-2 c =
 pub open-new-spec : {M : Type 1} → statement M
 open-new-spec =
     tie.close
-    (tie.spec
-    free-place-requires
-    enum-known-j
-    enum-told
-    refused-requires
-    returns
-    reserved-place-requires
-    fresh-requires
-    page-from-requires
-    mul-reserved
-    element-set-from-reserved
-    mul-opened
-    element-set-from-opened
-    done-requires
-    returns-2)
+    (tie.spec (λ c κs. search needs) (λ c. search needs) (λ c. search needs) (λ c κs. search needs) returns (λ c κs. search needs)
+    (λ c κs. search needs) (λ c κs. search needs) mul-reserved element-set-from-reserved (λ c. search needs) (λ c. search needs)
+    (λ c κs. search needs) returns-2)

@@ -1,13 +1,25 @@
 -- Open answers and leaves the desk as document 01 says. Assumes nothing.
-use mathlib.Core.Path.{refl, sym, ap, _∙_}
+use mathlib.Core.Path.{_≡_, refl, sym, ap, _∙_}
 use Prim.Native.Nat.{_<_}
 use native.Mathlib.Omega.{arith}
 use borrow.Author.Tests.{not-true, not-false}
-use Rattle.desk.specs.Places.{isFound}
+use Rattle.desk.specs.declared.Found.the-variants.{At}
+use Rattle.desk.specs.Places.{isFound, freePageFound}
+use Rattle.calls.specs.Refusing.{FirstTwo, first-two}
 use Rattle.calls.specs.Opening.{open-early, open-size, open-opened, open-pages, open-taught, open-left, open-refused}
 use borrow.Author.Needs.{needs}
 use Rattle.calls.proofs.open_when.Statement.{statement}
 use Rattle.calls.proofs.open_when.Tie as tie
+
+-- the first two tests, of this desk and key
+asked : (c : tie.After-early-refusal) → let a = c .before .before .args in FirstTwo (a .d) (a .ask .key) (c .early-refusal .result)
+asked c =
+    let a = c .before .before .args in first-two (a .d) (a .ask .key) (a .good) (c .early-refusal .result) (c .before .before .pre)
+    (c .early-refusal .ensures)
+
+-- where it was found
+slot : (c : tie.After-known-told) → let a = c .before .before .before .before .before .before .before .before .before .before .before .before .before .args in freePageFound (a .d) ≡ At (c .before .i .given .0 .0)
+slot c = sym (c .before .before .before .free-page .ensures .0) ∙ c .before .i .given .1
 
 -- what was found is within
 slot-within : (c : tie.After-known-told) → c .before .i .given .0 .0 < 4
@@ -17,64 +29,32 @@ slot-within c = rw (c .before .i .given .1) at (c .before .before .before .free-
 place-within : (c : tie.After-known-told2) → c .before .j .given .0 .0 < 8
 place-within c = rw (c .before .j .given .1) at (c .before .before .before .find-table .ensures .1)
 
-early-refusal-requires : tie.Need-early-refusal-requires
-early-refusal-requires c κs = search needs
-
-refused-requires : tie.Need-refused-requires
-refused-requires c κs = search needs
-
 returns : tie.Need-returns
 returns c =
     let a = c .before .before .before .before .args in
     let r = c .before .before .early-refusal in
     c .refused .ensures ∙ open-refused (a .d) (a .ask) (r .result)
-    (open-early (a .d) (a .ask) (a .good) (r .result) (c .before .before .before .before .pre) (r .ensures) (c .before .if1 .taken)) (c .before .if1 .taken)
-
-in-range-requires : tie.Need-in-range-requires
-in-range-requires c κs = search needs
-
-refused-requires-2 : tie.Need-refused-requires-2
-refused-requires-2 c κs = search needs
+    (open-early (a .d) (a .ask) (r .result) (asked (c .before .before)) (c .before .if1 .taken)) (c .before .if1 .taken)
 
 returns-2 : tie.Need-returns-2
 returns-2 c =
     let a = c .before .before .before .before .before .before .args in
     let w = sym (c .before .before .in-range .ensures) ∙ not-true (c .before .before .in-range .result) (c .before .if2 .taken) in
     let r = c .before .before .before .before .early-refusal in
-    c .refused2 .ensures ∙ open-refused (a .d) (a .ask) 6 (open-size (a .d) (a .ask) (a .good) (r .result) (c .before .before .before .before .before .before .pre)
-    (r .ensures) (c .before .before .before .if1 .left) w) (λ z. omega arith)
-
-find-page-requires : tie.Need-find-page-requires
-find-page-requires c κs = search needs
-
-is-found-requires : tie.Need-is-found-requires
-is-found-requires c κs = search needs
-
-refused-requires-3 : tie.Need-refused-requires-3
-refused-requires-3 c κs = search needs
+    c .refused2 .ensures ∙ open-refused (a .d) (a .ask) 6 (open-size (a .d) (a .ask) (r .result) (asked (c .before .before .before .before))
+    (c .before .before .before .if1 .left) w) (λ z. omega arith)
 
 returns-3 : tie.Need-returns-3
 returns-3 c =
     let a = c .before .before .before .before .before .before .before .before .before .before .args in
-    let w = sym (c .before .before .before .before .before .before .in-range .ensures) ∙ not-false (c .before .before .before .before .before .before .in-range .result)
+    let w = sym (c .before .before .before .before .before .before .in-range .ensures) ∙ not-false
+    (c .before .before .before .before .before .before .in-range .result)
     (c .before .before .before .before .before .if2 .left) in
     let o = ap isFound (sym (c .before .before .before .find-page .ensures .0)) ∙ sym (c .before .before .is-found .ensures) ∙ c .before .if3 .taken in
     let r = c .before .before .before .before .before .before .before .before .early-refusal in
-    c .refused3 .ensures ∙ open-refused (a .d) (a .ask) 3 (open-opened (a .d) (a .ask) (a .good) (r .result)
-    (c .before .before .before .before .before .before .before .before .before .before .pre) (r .ensures)
+    c .refused3 .ensures ∙ open-refused (a .d) (a .ask) 3 (open-opened (a .d) (a .ask) (r .result) (asked
+    (c .before .before .before .before .before .before .before .before))
     (c .before .before .before .before .before .before .before .if1 .left) w o) (λ z. omega arith)
-
-free-page-requires : tie.Need-free-page-requires
-free-page-requires c κs = search needs
-
-enum-known-i : tie.Need-enum-known-i
-enum-known-i c = search needs
-
-enum-told : tie.Need-enum-told
-enum-told c = search needs
-
-refused-requires-4 : tie.Need-refused-requires-4
-refused-requires-4 c κs = search needs
 
 returns-4 : tie.Need-returns-4
 returns-4 c =
@@ -85,38 +65,31 @@ returns-4 c =
     let o = ap isFound (sym (c .before .before .before .before .before .before .find-page .ensures .0)) ∙ sym
     (c .before .before .before .before .before .is-found .ensures) ∙ c .before .before .before .before .if3 .left in
     let r = c .before .before .before .before .before .before .before .before .before .before .before .early-refusal in
-    c .refused4 .ensures ∙ open-refused (a .d) (a .ask) 4 (open-pages (a .d) (a .ask) (a .good) (r .result)
-    (c .before .before .before .before .before .before .before .before .before .before .before .before .before .pre) (r .ensures)
+    c .refused4 .ensures ∙ open-refused (a .d) (a .ask) 4 (open-pages (a .d) (a .ask) (r .result) (asked
+    (c .before .before .before .before .before .before .before .before .before .before .before))
     (c .before .before .before .before .before .before .before .before .before .before .if1 .left) w o
     (sym (c .before .before .before .free-page .ensures .0) ∙ c .before .enum-told .given .1)) (λ z. omega arith)
-
-find-table-requires : tie.Need-find-table-requires
-find-table-requires c κs = search needs
-
-enum-known-j : tie.Need-enum-known-j
-enum-known-j c = search needs
-
-enum-told-2 : tie.Need-enum-told-2
-enum-told-2 c = search needs
 
 open-new-requires : tie.Need-open-new-requires
 open-new-requires c κs = slot-within (c .before .before .before .before)
 
 returns-5 : tie.Need-returns-5
 returns-5 c =
-    let a = c .before .before .before .before .before .before .before .before .before .before .before .before .before .before .before .before .before .before .args in
-    let f = sym (c .before .before .before .before .before .before .before .before .free-page .ensures .0)
-    ∙ c .before .before .before .before .before .before .i .given .1 in
+    let a =
+    c .before .before .before .before .before .before .before .before .before .before .before .before .before .before .before .before .before .before .args
+    in
+    let f = slot (c .before .before .before .before .before) in
     let i = c .before .before .before .before .before .before .i .given .0 .0 in
-    let w = sym (c .before .before .before .before .before .before .before .before .before .before .before .before .before .before .in-range .ensures) ∙ not-false
+    let w = sym (c .before .before .before .before .before .before .before .before .before .before .before .before .before .before .in-range .ensures)
+    ∙ not-false
     (c .before .before .before .before .before .before .before .before .before .before .before .before .before .before .in-range .result)
     (c .before .before .before .before .before .before .before .before .before .before .before .before .before .if2 .left) in
     let o = ap isFound (sym (c .before .before .before .before .before .before .before .before .before .before .before .find-page .ensures .0)) ∙ sym
     (c .before .before .before .before .before .before .before .before .before .before .is-found .ensures)
     ∙ c .before .before .before .before .before .before .before .before .before .if3 .left in
     let r = c .before .before .before .before .before .before .before .before .before .before .before .before .before .before .before .before .early-refusal in
-    c .open-new .ensures ∙ open-left (a .d) (a .ask) (a .good) (r .result)
-    (c .before .before .before .before .before .before .before .before .before .before .before .before .before .before .before .before .before .before .pre) (r .ensures)
+    c .open-new .ensures ∙ open-left (a .d) (a .ask) (r .result) (asked
+    (c .before .before .before .before .before .before .before .before .before .before .before .before .before .before .before .before))
     (c .before .before .before .before .before .before .before .before .before .before .before .before .before .before .before .if1 .left) w o i f
     (sym (c .before .before .before .find-table .ensures .0) ∙ c .before .enum-told2 .given .1)
 
@@ -126,60 +99,42 @@ mul-learned c = let h = place-within c in omega arith
 array-copy-out-learned : tie.Need-array-copy-out-learned
 array-copy-out-learned c = place-within c
 
-page-from-requires : tie.Need-page-from-requires
-page-from-requires c κs = search needs
-
 mul-opened : tie.Need-mul-opened
 mul-opened c = let h = slot-within (c .before .before .before .before .before .before .before) in omega arith
 
 element-set-from-opened : tie.Need-element-set-from-opened
 element-set-from-opened c = slot-within (c .before .before .before .before .before .before .before)
 
-done-requires : tie.Need-done-requires
-done-requires c κs = search needs
-
 returns-6 : tie.Need-returns-6
 returns-6 c =
-    let a = c .before .before .before .before .before .before .before .before .before .before .before .before .before .before .before .before .before .before .before .before .before .args in
-    let f = sym (c .before .before .before .before .before .before .before .before .before .before .before .free-page .ensures .0)
-    ∙ c .before .before .before .before .before .before .before .before .before .i .given .1 in
+    let a =
+    c .before .before .before .before .before .before .before .before .before .before .before .before .before .before .before .before .before .before .before .before .before .args
+    in
+    let f = slot (c .before .before .before .before .before .before .before .before) in
     let i = c .before .before .before .before .before .before .before .before .before .i .given .0 .0 in
-    let w = sym (c .before .before .before .before .before .before .before .before .before .before .before .before .before .before .before .before .before .in-range .ensures) ∙ not-false (c .before .before .before .before .before .before .before .before .before .before .before .before .before .before .before .before .before .in-range .result) (c .before .before .before .before .before .before .before .before .before .before .before .before .before .before .before .before .if2 .left) in
-    let o = ap isFound (sym (c .before .before .before .before .before .before .before .before .before .before .before .before .before .before .find-page .ensures .0))
+    let w = sym
+    (c .before .before .before .before .before .before .before .before .before .before .before .before .before .before .before .before .before .in-range .ensures)
+    ∙ not-false
+    (c .before .before .before .before .before .before .before .before .before .before .before .before .before .before .before .before .before .in-range .result)
+    (c .before .before .before .before .before .before .before .before .before .before .before .before .before .before .before .before .if2 .left) in
+    let o = ap isFound (sym
+    (c .before .before .before .before .before .before .before .before .before .before .before .before .before .before .find-page .ensures .0))
     ∙ sym (c .before .before .before .before .before .before .before .before .before .before .before .before .before .is-found .ensures)
     ∙ c .before .before .before .before .before .before .before .before .before .before .before .before .if3 .left in
-    let r = c .before .before .before .before .before .before .before .before .before .before .before .before .before .before .before .before .before .before .before .early-refusal in
-    c .done .ensures ∙ open-taught (a .d) (a .ask) (a .good) (r .result)
-    (c .before .before .before .before .before .before .before .before .before .before .before .before .before .before .before .before .before .before .before .before .before .pre) (r .ensures) (c .before .before .before .before .before .before .before .before .before .before .before .before .before .before .before .before .before .before .if1 .left) w o i f (c .before .before .before .before .j .given .0 .0) _ (c .before .page-from .result) (sym (c .before .before .before .before .before .before .find-table .ensures .0) ∙ c .before .before .before .before .j .given .1) refl (c .before .page-from .ensures)
+    let r =
+    c .before .before .before .before .before .before .before .before .before .before .before .before .before .before .before .before .before .before .before .early-refusal
+    in
+    c .done .ensures ∙ open-taught (a .d) (a .ask) (r .result) (asked
+    (c .before .before .before .before .before .before .before .before .before .before .before .before .before .before .before .before .before .before .before))
+    (c .before .before .before .before .before .before .before .before .before .before .before .before .before .before .before .before .before .before .if1 .left)
+    w o i f (c .before .before .before .before .j .given .0 .0) _ (c .before .page-from .result) (sym
+    (c .before .before .before .before .before .before .find-table .ensures .0) ∙ c .before .before .before .before .j .given .1) refl
+    (c .before .page-from .ensures)
 
 pub open-when-spec : {M : Type 1} → statement M
 open-when-spec =
     tie.close
-    (tie.spec
-    early-refusal-requires
-    refused-requires
-    returns
-    in-range-requires
-    refused-requires-2
-    returns-2
-    find-page-requires
-    is-found-requires
-    refused-requires-3
-    returns-3
-    free-page-requires
-    enum-known-i
-    enum-told
-    refused-requires-4
-    returns-4
-    find-table-requires
-    enum-known-j
-    enum-told-2
-    open-new-requires
-    returns-5
-    mul-learned
-    array-copy-out-learned
-    page-from-requires
-    mul-opened
-    element-set-from-opened
-    done-requires
-    returns-6)
+    (tie.spec (λ c κs. search needs) (λ c κs. search needs) returns (λ c κs. search needs) (λ c κs. search needs) returns-2 (λ c κs. search needs)
+    (λ c κs. search needs) (λ c κs. search needs) returns-3 (λ c κs. search needs) (λ c. search needs) (λ c. search needs) (λ c κs. search needs)
+    returns-4 (λ c κs. search needs) (λ c. search needs) (λ c. search needs) open-new-requires returns-5 mul-learned array-copy-out-learned
+    (λ c κs. search needs) mul-opened element-set-from-opened (λ c κs. search needs) returns-6)

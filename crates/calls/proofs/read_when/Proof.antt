@@ -11,18 +11,28 @@ use Rattle.desk.specs.Places.{noPage, pageFound}
 use Rattle.desk.specs.Lawful.{within}
 use Rattle.desk.specs.OpenPages.{OpenPage, within-both}
 use Rattle.desk.specs.Calls.{readTests}
-use Rattle.calls.specs.Refusing.{Begun}
+use Rattle.calls.specs.Refusing.{FirstTwo, first-two, Begun}
 use Rattle.calls.specs.Reads.{read-early, read-early-keeps, read-begun, opened-page, read-rows, read-long, read-none, read-other-way, read-room, read-end, read-refused, read-answers}
 use borrow.Author.Needs.{needs}
 use Rattle.calls.proofs.read_when.Statement.{statement}
 use Rattle.calls.proofs.read_when.Tie as tie
+
+-- the first two tests, of this desk and key
+asked : (c : tie.After-early-refusal) → let a = c .before .before .before .before .args in FirstTwo (a .d) (a .ask .key) (c .early-refusal .result)
+asked c =
+    let a = c .before .before .before .before .args in first-two (a .d) (a .ask .key) (a .good) (c .early-refusal .result)
+    (c .before .before .before .before .pre) (c .early-refusal .ensures)
+
+-- where it was found
+slot : (c : tie.After-known-told) → let a = c .before .before .before .before .before .before .before .before .before .before .before .before .before .args in pageFound (a .d) (a .ask .key) ≡ At (c .before .i .given .0 .0)
+slot c = sym (c .before .before .before .find-page .ensures .0) ∙ c .before .i .given .1
 
 -- past the first two tests
 on : (c : tie.Else1) → let a = c .before .before .before .before .before .args in Begun (readTests (a .d) (a .ask) (a .code .now) (a .out .now))
 on c =
     let a = c .before .before .before .before .before .args in
     let r = c .before .early-refusal in
-    read-begun (a .d) (a .ask) (a .code .now) (a .out .now) (a .good) (r .result) (c .before .before .before .before .before .pre) (r .ensures) (c .if1 .left)
+    read-begun (a .d) (a .ask) (a .code .now) (a .out .now) (r .result) (asked (c .before)) (c .if1 .left)
 
 ranged : (c : tie.Else2) → within 1 (c .before .before .before .before .before .before .before .args .ask .rows) maxRows ≡ true
 ranged c = sym (c .before .in-range .ensures) ∙ not-false (c .before .in-range .result) (c .if2 .left)
@@ -34,32 +44,20 @@ ranged-by c = within-both 1 (c .before .before .before .before .before .before .
 slot-within : (c : tie.After-known-told) → c .before .i .given .0 .0 < 4
 slot-within c = rw (c .before .i .given .1) at (c .before .before .before .find-page .ensures .1)
 
-at-slot : (c : tie.After-known-told) → let a = c .before .before .before .before .before .before .before .before .before .before .before .before .before .args in pageFound (a .d) (a .ask .key) ≡ At (c .before .i .given .0 .0)
-at-slot c = sym (c .before .before .before .find-page .ensures .0) ∙ c .before .i .given .1
-
 -- the open page of a lawful desk
 opened : (c : tie.After-known-told) → let a = c .before .before .before .before .before .before .before .before .before .before .before .before .before .args in OpenPage (getD (a .d .pages) (c .before .i .given .0 .0) noPage)
-opened c = let a = c .before .before .before .before .before .before .before .before .before .before .before .before .before .args in opened-page (a .d) (a .ask) (a .code .now) (a .out .now) (on (c .before .before .before .before .before .before .before .before)) (c .before .i .given .0 .0) (at-slot c)
-
-early-refusal-requires : tie.Need-early-refusal-requires
-early-refusal-requires c κs = search needs
-
-refused-requires : tie.Need-refused-requires
-refused-requires c κs = search needs
+opened c =
+    let a = c .before .before .before .before .before .before .before .before .before .before .before .before .before .args in opened-page (a .d)
+    (a .ask) (a .code .now) (a .out .now) (on (c .before .before .before .before .before .before .before .before)) (c .before .i .given .0 .0)
+    (slot c)
 
 returns : tie.Need-returns
 returns c =
     let a = c .before .before .before .before .before .before .args in
     let r = c .before .before .early-refusal in
     read-refused (a .d) (a .ask) (a .code .now) (a .out .now) (c .refused .result) (r .result) (c .refused .ensures)
-    (read-early (a .d) (a .ask) (a .code .now) (a .out .now) (a .good) (r .result) (c .before .before .before .before .before .before .pre) (r .ensures) (c .before .if1 .taken)) (c .before .if1 .taken)
-    (read-early-keeps (a .d) (a .ask) (a .code .now) (a .out .now) (a .good) (r .result) (c .before .before .before .before .before .before .pre) (r .ensures))
-
-in-range-requires : tie.Need-in-range-requires
-in-range-requires c κs = search needs
-
-refused-requires-2 : tie.Need-refused-requires-2
-refused-requires-2 c κs = search needs
+    (read-early (a .d) (a .ask) (a .code .now) (a .out .now) (r .result) (asked (c .before .before)) (c .before .if1 .taken)) (c .before .if1 .taken)
+    (read-early-keeps (a .d) (a .ask) (a .code .now) (a .out .now) (r .result) (asked (c .before .before)))
 
 returns-2 : tie.Need-returns-2
 returns-2 c =
@@ -69,9 +67,6 @@ returns-2 c =
     (read-rows (a .d) (a .ask) (a .code .now) (a .out .now) (on (c .before .before .before)) (sym (w .ensures) ∙ not-true (w .result) (c .before .if2 .taken)))
     (λ z. omega arith) (λ z. omega arith, λ z. omega arith)
 
-refused-requires-3 : tie.Need-refused-requires-3
-refused-requires-3 c κs = search needs
-
 returns-3 : tie.Need-returns-3
 returns-3 c =
     let a = c .before .before .before .before .before .before .before .before .before .args in
@@ -79,23 +74,13 @@ returns-3 c =
     (read-long (a .d) (a .ask) (a .code .now) (a .out .now) (on (c .before .before .before .before)) (ranged (c .before .before)) (c .before .if3 .taken))
     (λ z. omega arith) (λ z. omega arith, λ z. omega arith)
 
-find-page-requires : tie.Need-find-page-requires
-find-page-requires c κs = search needs
-
-enum-known-i : tie.Need-enum-known-i
-enum-known-i c = search needs
-
-enum-told : tie.Need-enum-told
-enum-told c = search needs
-
-refused-requires-4 : tie.Need-refused-requires-4
-refused-requires-4 c κs = search needs
-
 returns-4 : tie.Need-returns-4
 returns-4 c =
     let a = c .before .before .before .before .before .before .before .before .before .before .before .before .before .args in
     read-refused (a .d) (a .ask) (a .code .now) (a .out .now) (c .refused4 .result) 2 (c .refused4 .ensures)
-    (read-none (a .d) (a .ask) (a .code .now) (a .out .now) (on (c .before .before .before .before .before .before .before .before)) (ranged (c .before .before .before .before .before .before)) (c .before .before .before .before .before .if3 .left) (sym (c .before .before .before .find-page .ensures .0) ∙ c .before .enum-told .given .1))
+    (read-none (a .d) (a .ask) (a .code .now) (a .out .now) (on (c .before .before .before .before .before .before .before .before)) (ranged
+    (c .before .before .before .before .before .before)) (c .before .before .before .before .before .if3 .left) (sym
+    (c .before .before .before .find-page .ensures .0) ∙ c .before .enum-told .given .1))
     (λ z. omega arith) (λ z. omega arith, λ z. omega arith)
 
 mul-page : tie.Need-mul-page
@@ -104,14 +89,15 @@ mul-page c = let h = slot-within c in omega arith
 array-copy-out-page : tie.Need-array-copy-out-page
 array-copy-out-page c = slot-within c
 
-refused-requires-5 : tie.Need-refused-requires-5
-refused-requires-5 c κs = search needs
-
 returns-5 : tie.Need-returns-5
 returns-5 c =
     let a = c .before .before .before .before .before .before .before .before .before .before .before .before .before .before .before .before .before .args in
     read-refused (a .d) (a .ask) (a .code .now) (a .out .now) (c .refused5 .result) 7 (c .refused5 .ensures)
-    (read-other-way (a .d) (a .ask) (a .code .now) (a .out .now) (on (c .before .before .before .before .before .before .before .before .before .before .before .before)) (ranged (c .before .before .before .before .before .before .before .before .before .before)) (c .before .before .before .before .before .before .before .before .before .if3 .left) (c .before .before .before .before .before .i .given .0 .0) (at-slot (c .before .before .before .before)) (c .before .if4 .taken))
+    (read-other-way (a .d) (a .ask) (a .code .now) (a .out .now) (on
+    (c .before .before .before .before .before .before .before .before .before .before .before .before)) (ranged
+    (c .before .before .before .before .before .before .before .before .before .before))
+    (c .before .before .before .before .before .before .before .before .before .if3 .left) (c .before .before .before .before .before .i .given .0 .0)
+    (slot (c .before .before .before .before)) (c .before .if4 .taken))
     (λ z. omega arith) (λ z. omega arith, λ z. omega arith)
 
 read-band-requires : tie.Need-read-band-requires
@@ -123,43 +109,26 @@ read-band-requires c κs =
 read-found-requires : tie.Need-read-found-requires
 read-found-requires c κs = slot-within (c .before .before .before .before .before .before .before .before .before)
 
-same-length : tie.Need-same-length
-same-length c = search needs
-
 returns-6 : tie.Need-returns-6
 returns-6 c =
-    let a = c .before .before .before .before .before .before .before .before .before .before .before .before .before .before .before .before .before .before .before .before .before .before .before .args in
-    let b = on (c .before .before .before .before .before .before .before .before .before .before .before .before .before .before .before .before .before .before) in
+    let a =
+    c .before .before .before .before .before .before .before .before .before .before .before .before .before .before .before .before .before .before .before .before .before .before .before .args
+    in
+    let b = on
+    (c .before .before .before .before .before .before .before .before .before .before .before .before .before .before .before .before .before .before)
+    in
     let g = ranged (c .before .before .before .before .before .before .before .before .before .before .before .before .before .before .before .before) in
     let l = c .before .before .before .before .before .before .before .before .before .before .before .before .before .before .before .if3 .left in
     let i = c .before .before .before .before .before .before .before .before .before .before .before .i .given .0 .0 in
-    let f = at-slot (c .before .before .before .before .before .before .before .before .before .before) in
+    let f = slot (c .before .before .before .before .before .before .before .before .before .before) in
     let w = c .before .before .before .before .before .before .before .if4 .left in
     let r = c .before .before .before .read-band in
-    read-answers (a .d) (a .ask) (a .code .now) (a .out .now) i f (r .result) _ (c .read-found .result) (c .read-found .ensures) (r .ensures) (read-room (a .d) (a .ask) (a .code .now) (a .out .now) b g l i f w) (read-end (a .d) (a .ask) (a .code .now) (a .out .now) b g l i f w)
+    read-answers (a .d) (a .ask) (a .code .now) (a .out .now) i f (r .result) _ (c .read-found .result) (c .read-found .ensures) (r .ensures)
+    (read-room (a .d) (a .ask) (a .code .now) (a .out .now) b g l i f w) (read-end (a .d) (a .ask) (a .code .now) (a .out .now) b g l i f w)
 
 pub read-when-spec : {M : Type 1} → statement M
 read-when-spec =
     tie.close
-    (tie.spec
-    early-refusal-requires
-    refused-requires
-    returns
-    in-range-requires
-    refused-requires-2
-    returns-2
-    refused-requires-3
-    returns-3
-    find-page-requires
-    enum-known-i
-    enum-told
-    refused-requires-4
-    returns-4
-    mul-page
-    array-copy-out-page
-    refused-requires-5
-    returns-5
-    read-band-requires
-    read-found-requires
-    same-length
-    returns-6)
+    (tie.spec (λ c κs. search needs) (λ c κs. search needs) returns (λ c κs. search needs) (λ c κs. search needs) returns-2 (λ c κs. search needs)
+    returns-3 (λ c κs. search needs) (λ c. search needs) (λ c. search needs) (λ c κs. search needs) returns-4 mul-page array-copy-out-page
+    (λ c κs. search needs) returns-5 read-band-requires read-found-requires (λ c. search needs) returns-6)

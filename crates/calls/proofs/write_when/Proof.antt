@@ -9,22 +9,33 @@ use lib.ListN.{getD, length}
 use borrow.Author.Tests.{not-true, not-false}
 use Rattle.template.specs.Pels.{rowBytes, bandPadded}
 use Rattle.band.specs.Band.{maxRows}
-use Rattle.desk.specs.Places.{noPage}
+use Rattle.desk.specs.declared.Found.the-variants.{At}
+use Rattle.desk.specs.Places.{noPage, pageFound}
 use Rattle.desk.specs.Lawful.{within}
 use Rattle.desk.specs.OpenPages.{OpenPage, within-both}
 use Rattle.desk.specs.Calls.{bandOf, writeTests}
-use Rattle.calls.specs.Refusing.{Begun}
+use Rattle.calls.specs.Refusing.{FirstTwo, first-two, Begun}
 use Rattle.calls.specs.Bands.{write-early, write-early-keeps, write-begun, write-page, write-size, write-none, write-other-way, write-pels, write-padding, write-room, write-end, write-refused, write-keeps, room-is, write-clears, write-done, write-lends}
 use borrow.Author.Needs.{needs}
 use Rattle.calls.proofs.write_when.Statement.{statement}
 use Rattle.calls.proofs.write_when.Tie as tie
+
+-- the first two tests, of this desk and key
+asked : (c : tie.After-early-refusal) → let a = c .before .before .before .before .args in FirstTwo (a .d) (a .ask .key) (c .early-refusal .result)
+asked c =
+    let a = c .before .before .before .before .args in first-two (a .d) (a .ask .key) (a .good) (c .early-refusal .result)
+    (c .before .before .before .before .pre) (c .early-refusal .ensures)
+
+-- where it was found
+slot : (c : tie.After-known-told) → let a = c .before .before .before .before .before .before .before .before .before .before .before .before .args in pageFound (a .d) (a .ask .key) ≡ At (c .before .i .given .0 .0)
+slot c = sym (c .before .before .before .find-page .ensures .0) ∙ c .before .i .given .1
 
 -- past the first two tests
 on : (c : tie.Else1) → let a = c .before .before .before .before .before .args in Begun (writeTests (a .d) (a .ask) (a .pels .now) (a .out .now))
 on c =
     let a = c .before .before .before .before .before .args in
     let r = c .before .early-refusal in
-    write-begun (a .d) (a .ask) (a .pels .now) (a .out .now) (a .good) (r .result) (c .before .before .before .before .before .pre) (r .ensures) (c .if1 .left)
+    write-begun (a .d) (a .ask) (a .pels .now) (a .out .now) (r .result) (asked (c .before)) (c .if1 .left)
 
 ranged : (c : tie.Else2) → within 1 (c .before .before .before .before .before .before .before .args .ask .rows) maxRows ≡ true
 ranged c = sym (c .before .in-range .ensures) ∙ not-false (c .before .in-range .result) (c .if2 .left)
@@ -42,7 +53,7 @@ opened : (c : tie.After-known-told) → let a = c .before .before .before .befor
 opened c =
     let a = c .before .before .before .before .before .before .before .before .before .before .before .before .args in
     write-page (a .d) (a .ask) (a .pels .now) (a .out .now) (on (c .before .before .before .before .before .before .before)) (c .before .i .given .0 .0)
-    (sym (c .before .before .before .find-page .ensures .0) ∙ c .before .i .given .1)
+    (slot c)
 
 sizes : (c : tie.After-row-bytes) →
     let a = c .before .before .before .before .before .before .before .before .before .before .before .before .before .before .before .before .args in
@@ -57,37 +68,28 @@ exact : (c : tie.Else4) →
     let a = c .before .before .before .before .before .before .before .before .before .before .before .before .before .before .before .before .before .args in
     let i = c .before .before .before .before .before .before .i .given .0 .0 in
     length (a .pels .now) ≡ a .ask .rows * rowBytes (getD (a .d .pages) i noPage .width)
-exact c = let a = c .before .before .before .before .before .before .before .before .before .before .before .before .before .before .before .before .before .args in
+exact c =
+    let a =
+    c .before .before .before .before .before .before .before .before .before .before .before .before .before .before .before .before .before .args in
     c .if4 .left ∙ ap (λ m. a .ask .rows * m) (c .before .row-bytes .ensures)
 
 padded : (c : tie.Else5) →
-    let a = c .before .before .before .before .before .before .before .before .before .before .before .before .before .before .before .before .before .before .before .args in let i = c .before .before .before .before .before .before .before .before .i .given .0 .0 in
+    let a =
+    c .before .before .before .before .before .before .before .before .before .before .before .before .before .before .before .before .before .before .before .args
+    in let i = c .before .before .before .before .before .before .before .before .i .given .0 .0 in
     bandPadded (getD (a .d .pages) i noPage .width) (a .pels .now) (a .ask .rows) ≡ true
 padded c = sym (c .before .band-padded .ensures) ∙ not-false (c .before .band-padded .result) (c .if5 .left)
-
-early-refusal-requires : tie.Need-early-refusal-requires
-early-refusal-requires c κs = search needs
-
-refused-requires : tie.Need-refused-requires
-refused-requires c κs = search needs
 
 returns : tie.Need-returns
 returns c =
     let a = c .before .before .before .before .before .before .args in
     let r = c .before .before .early-refusal in
-    let e = write-early (a .d) (a .ask) (a .pels .now) (a .out .now) (a .good) (r .result) (c .before .before .before .before .before .before .pre) (r .ensures)
+    let e = write-early (a .d) (a .ask) (a .pels .now) (a .out .now) (r .result) (asked (c .before .before))
     (c .before .if1 .taken) in (
       c .refused .ensures ∙ write-refused (a .d) (a .ask) (a .pels .now) (a .out .now) (r .result) e (c .before .if1 .taken),
       write-keeps (a .d) (a .ask) (a .pels .now)
-          (a .out .now) (r .result) e (c .before .if1 .taken) (write-early-keeps (a .d) (a .ask) (a .pels .now) (a .out .now) (a .good) (r .result)
-          (c .before .before .before .before .before .before .pre) (r .ensures)),
+          (a .out .now) (r .result) e (c .before .if1 .taken) (write-early-keeps (a .d) (a .ask) (a .pels .now) (a .out .now) (r .result) (asked (c .before .before))),
     )
-
-in-range-requires : tie.Need-in-range-requires
-in-range-requires c κs = search needs
-
-refused-requires-2 : tie.Need-refused-requires-2
-refused-requires-2 c κs = search needs
 
 returns-2 : tie.Need-returns-2
 returns-2 c =
@@ -100,24 +102,13 @@ returns-2 c =
           (a .out .now) 6 e (λ z. omega arith) (λ z. omega arith, λ z. omega arith),
     )
 
-find-page-requires : tie.Need-find-page-requires
-find-page-requires c κs = search needs
-
-enum-known-i : tie.Need-enum-known-i
-enum-known-i c = search needs
-
-enum-told : tie.Need-enum-told
-enum-told c = search needs
-
-refused-requires-3 : tie.Need-refused-requires-3
-refused-requires-3 c κs = search needs
-
 returns-3 : tie.Need-returns-3
 returns-3 c =
     let a = c .before .before .before .before .before .before .before .before .before .before .before .before .args in
     let b = on (c .before .before .before .before .before .before .before) in
     let g = ranged (c .before .before .before .before .before) in
-    let e = write-none (a .d) (a .ask) (a .pels .now) (a .out .now) b g (sym (c .before .before .before .find-page .ensures .0) ∙ c .before .enum-told .given .1) in (
+    let e = write-none (a .d) (a .ask) (a .pels .now) (a .out .now) b g (sym (c .before .before .before .find-page .ensures .0) ∙
+    c .before .enum-told .given .1) in (
       c .refused3 .ensures ∙ write-refused (a .d) (a .ask) (a .pels .now) (a .out .now) 2 e (λ z. omega arith),
       write-keeps (a .d) (a .ask) (a .pels .now)
           (a .out .now) 2 e (λ z. omega arith) (λ z. omega arith, λ z. omega arith),
@@ -129,13 +120,10 @@ mul-page c = let h = slot-within c in omega arith
 array-copy-out-page : tie.Need-array-copy-out-page
 array-copy-out-page c = slot-within c
 
-refused-requires-4 : tie.Need-refused-requires-4
-refused-requires-4 c κs = search needs
-
 returns-4 : tie.Need-returns-4
 returns-4 c =
     let a = c .before .before .before .before .before .before .before .before .before .before .before .before .before .before .before .before .args in
-    let f = sym (c .before .before .before .before .before .before .before .find-page .ensures .0) ∙ c .before .before .before .before .before .i .given .1 in
+    let f = slot (c .before .before .before .before) in
     let i = c .before .before .before .before .before .i .given .0 .0 in
     let b = on (c .before .before .before .before .before .before .before .before .before .before .before) in
     let g = ranged (c .before .before .before .before .before .before .before .before .before) in
@@ -151,14 +139,12 @@ row-bytes-requires c κs = let p = opened (c .before .before .before) in omega (
 mul-if4 : tie.Need-mul-if4
 mul-if4 c = let s = sizes c in omega arith
 
-refused-requires-5 : tie.Need-refused-requires-5
-refused-requires-5 c κs = search needs
-
 returns-5 : tie.Need-returns-5
 returns-5 c =
-    let a = c .before .before .before .before .before .before .before .before .before .before .before .before .before .before .before .before .before .before .args in
-    let f = sym (c .before .before .before .before .before .before .before .before .before .find-page .ensures .0)
-    ∙ c .before .before .before .before .before .before .before .i .given .1 in
+    let a =
+    c .before .before .before .before .before .before .before .before .before .before .before .before .before .before .before .before .before .before .args
+    in
+    let f = slot (c .before .before .before .before .before .before) in
     let i = c .before .before .before .before .before .before .before .i .given .0 .0 in
     let b = on (c .before .before .before .before .before .before .before .before .before .before .before .before .before) in
     let g = ranged (c .before .before .before .before .before .before .before .before .before .before .before) in
@@ -173,14 +159,12 @@ band-padded-requires : tie.Need-band-padded-requires
 band-padded-requires c κs = let p = opened (c .before .before .before .before .before) in let w = ranged-by
     (c .before .before .before .before .before .before .before .before .before .before) in (p .some, p .small, w .1, exact c)
 
-refused-requires-6 : tie.Need-refused-requires-6
-refused-requires-6 c κs = search needs
-
 returns-6 : tie.Need-returns-6
 returns-6 c =
-    let a = c .before .before .before .before .before .before .before .before .before .before .before .before .before .before .before .before .before .before .before .before .args in
-    let f = sym (c .before .before .before .before .before .before .before .before .before .before .before .find-page .ensures .0)
-    ∙ c .before .before .before .before .before .before .before .before .before .i .given .1 in
+    let a =
+    c .before .before .before .before .before .before .before .before .before .before .before .before .before .before .before .before .before .before .before .before .args
+    in
+    let f = slot (c .before .before .before .before .before .before .before .before) in
     let i = c .before .before .before .before .before .before .before .before .before .i .given .0 .0 in
     let b = on (c .before .before .before .before .before .before .before .before .before .before .before .before .before .before .before) in
     let g = ranged (c .before .before .before .before .before .before .before .before .before .before .before .before .before) in
@@ -197,20 +181,23 @@ write-band-requires c κs = let p = opened (c .before .before .before .before .b
     (c .before .before .before .before .before .before .before .before .before .before .before .before .before .before .before) in
     (p .some, p .small, w .0, w .1, exact (c .before .before .before .before .before), p .table)
 
-refused-requires-7 : tie.Need-refused-requires-7
-refused-requires-7 c κs = search needs
-
-same-length : tie.Need-same-length
-same-length c = search needs
-
 returns-7 : tie.Need-returns-7
 unfolding bandOf
 returns-7 c =
-    let a = c .before .before .before .before .before .before .before .before .before .before .before .before .before .before .before .before .before .before .before .before .before .before .before .before .before .before .before .before .args in
-    let f = sym (c .before .before .before .before .before .before .before .before .before .before .before .before .before .before .before .before .before .before .before .find-page .ensures .0) ∙ c .before .before .before .before .before .before .before .before .before .before .before .before .before .before .before .before .before .i .given .1 in
-    let i = c .before .before .before .before .before .before .before .before .before .before .before .before .before .before .before .before .before .i .given .0 .0 in
-    let b = on (c .before .before .before .before .before .before .before .before .before .before .before .before .before .before .before .before .before .before .before .before .before .before .before) in
-    let g = ranged (c .before .before .before .before .before .before .before .before .before .before .before .before .before .before .before .before .before .before .before .before .before) in
+    let a =
+    c .before .before .before .before .before .before .before .before .before .before .before .before .before .before .before .before .before .before .before .before .before .before .before .before .before .before .before .before .args
+    in
+    let f = slot (c .before .before .before .before .before .before .before .before .before .before .before .before .before .before .before .before)
+    in
+    let i =
+    c .before .before .before .before .before .before .before .before .before .before .before .before .before .before .before .before .before .i .given .0 .0
+    in
+    let b = on
+    (c .before .before .before .before .before .before .before .before .before .before .before .before .before .before .before .before .before .before .before .before .before .before .before)
+    in
+    let g = ranged
+    (c .before .before .before .before .before .before .before .before .before .before .before .before .before .before .before .before .before .before .before .before .before)
+    in
     let l = exact (c .before .before .before .before .before .before .before .before .before .before .before) in
     let q = padded (c .before .before .before .before .before .before .before .before .before) in
     let w = c .before .before .before .before .before .write-band in
@@ -223,39 +210,36 @@ returns-7 c =
           (a .pels .now) (a .out .now) i f (w .result) (w .ensures .0) o e,
     )
 
-served-page-requires : tie.Need-served-page-requires
-served-page-requires c κs = search needs
-
-mul-served : tie.Need-mul-served
-mul-served c = let h = slot-within (c .before .before .before .before .before .before .before .before .before .before .before .before .before .before .before .before) in
-    omega arith
-
-element-set-from-served : tie.Need-element-set-from-served
-element-set-from-served c = slot-within
-    (c .before .before .before .before .before .before .before .before .before .before .before .before .before .before .before .before)
-
-done-requires : tie.Need-done-requires
-done-requires c κs = search needs
-
-same-length-2 : tie.Need-same-length-2
-same-length-2 c = search needs
+serve-requires : tie.Need-serve-requires
+serve-requires c κs = slot-within
+    (c .before .before .before .before .before .before .before .before .before .before .before .before .before .before .before .before .before)
 
 returns-8 : tie.Need-returns-8
 unfolding bandOf
 returns-8 c =
-    let a = c .before .before .before .before .before .before .before .before .before .before .before .before .before .before .before .before .before .before .before .before .before .before .before .before .before .before .before .before .before .args in
-    let f = sym (c .before .before .before .before .before .before .before .before .before .before .before .before .before .before .before .before .before .before .before .before .find-page .ensures .0) ∙ c .before .before .before .before .before .before .before .before .before .before .before .before .before .before .before .before .before .before .i .given .1 in
-    let i = c .before .before .before .before .before .before .before .before .before .before .before .before .before .before .before .before .before .before .i .given .0 .0 in
-    let b = on (c .before .before .before .before .before .before .before .before .before .before .before .before .before .before .before .before .before .before .before .before .before .before .before .before) in
-    let g = ranged (c .before .before .before .before .before .before .before .before .before .before .before .before .before .before .before .before .before .before .before .before .before .before) in
-    let l = exact (c .before .before .before .before .before .before .before .before .before .before .before .before) in
-    let q = padded (c .before .before .before .before .before .before .before .before .before .before) in
-    let w = c .before .before .before .before .before .before .write-band in
-    let o = not-false (w .result .room) (c .before .before .if6 .left) in
+    let a =
+    c .before .before .before .before .before .before .before .before .before .before .before .before .before .before .before .before .before .before .before .before .before .before .before .before .before .before .before .before .before .before .args
+    in
+    let f = slot
+    (c .before .before .before .before .before .before .before .before .before .before .before .before .before .before .before .before .before .before)
+    in
+    let i =
+    c .before .before .before .before .before .before .before .before .before .before .before .before .before .before .before .before .before .before .before .i .given .0 .0
+    in
+    let b = on
+    (c .before .before .before .before .before .before .before .before .before .before .before .before .before .before .before .before .before .before .before .before .before .before .before .before .before)
+    in
+    let g = ranged
+    (c .before .before .before .before .before .before .before .before .before .before .before .before .before .before .before .before .before .before .before .before .before .before .before)
+    in
+    let l = exact (c .before .before .before .before .before .before .before .before .before .before .before .before .before) in
+    let q = padded (c .before .before .before .before .before .before .before .before .before .before .before) in
+    let w = c .before .before .before .before .before .before .before .write-band in
+    let o = not-false (w .result .room) (c .before .before .before .if6 .left) in
     let e = write-end (a .d) (a .ask) (a .pels .now) (a .out .now) b g i f
-    (c .before .before .before .before .before .before .before .before .before .before .before .before .before .before .if3 .left) l q
+    (c .before .before .before .before .before .before .before .before .before .before .before .before .before .before .before .if3 .left) l q
     (room-is (a .d) (a .ask) (a .pels .now) (a .out .now) i f (w .result) (w .ensures .0) _ o) in (
-      c .done .ensures ∙ write-done (a .d) (a .ask) (a .pels .now) (a .out .now) i f (w .result) (w .ensures .0) (c .before .served-page .result) o e
+      c .serve .ensures ∙ write-done (a .d) (a .ask) (a .pels .now) (a .out .now) i f (w .result) (w .ensures .0) (c .before .served-page .result) o e
           (c .before .served-page .ensures),
       w .ensures .1 ∙ write-lends (a .d) (a .ask) (a .pels .now) (a .out .now) i f (w .result) (w .ensures .0) o e,
     )
@@ -263,36 +247,7 @@ returns-8 c =
 pub write-when-spec : {M : Type 1} → statement M
 write-when-spec =
     tie.close
-    (tie.spec
-    early-refusal-requires
-    refused-requires
-    returns
-    in-range-requires
-    refused-requires-2
-    returns-2
-    find-page-requires
-    enum-known-i
-    enum-told
-    refused-requires-3
-    returns-3
-    mul-page
-    array-copy-out-page
-    refused-requires-4
-    returns-4
-    row-bytes-requires
-    mul-if4
-    refused-requires-5
-    returns-5
-    band-padded-requires
-    refused-requires-6
-    returns-6
-    write-band-requires
-    refused-requires-7
-    same-length
-    returns-7
-    served-page-requires
-    mul-served
-    element-set-from-served
-    done-requires
-    same-length-2
-    returns-8)
+    (tie.spec (λ c κs. search needs) (λ c κs. search needs) returns (λ c κs. search needs) (λ c κs. search needs) returns-2 (λ c κs. search needs)
+    (λ c. search needs) (λ c. search needs) (λ c κs. search needs) returns-3 mul-page array-copy-out-page (λ c κs. search needs) returns-4
+    row-bytes-requires mul-if4 (λ c κs. search needs) returns-5 band-padded-requires (λ c κs. search needs) returns-6 write-band-requires
+    (λ c κs. search needs) (λ c. search needs) returns-7 (λ c κs. search needs) serve-requires (λ c. search needs) returns-8)

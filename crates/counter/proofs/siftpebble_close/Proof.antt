@@ -1,6 +1,5 @@
 -- `counter::siftpebble_close` meets its contract: an outer call (`Two.antt`). Assumes nothing.
 use Prim.Native.Nat.{ℕ}
-use prog.Wp.{Heap}
 use contract.Running.{givenOf, tables, tablesOf}
 use denote.Triple.Spec.{tripleOf}
 use denote.Triple.Table.{entered, cited}

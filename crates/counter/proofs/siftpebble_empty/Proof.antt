@@ -34,7 +34,6 @@ use denote.Triple.Call.{calls-at}
 use denote.Triple.Clauses.{Ended, Clauses, ensured, lasts, closing}
 use denote.Triple.Table.{entered, cited}
 use denote.Triple.Walked.{says, Stays, stay-ref, walkOf, AllGo, goes-ref, Walks, ends-at, walked, walk-meets}
-use denote.Exit.{yes}
 use Rattle.desk.specs.declared.Desk.{Desk}
 use Rattle.desk.specs.Places.{emptyDesk}
 use Rattle.desk.proofs.Desk as T

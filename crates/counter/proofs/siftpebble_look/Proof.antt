@@ -1,7 +1,6 @@
 -- `counter::siftpebble_look` meets its contract: an outer call (`TwoOut.antt`). Assumes nothing.
 use Prim.Native.Nat.{ℕ}
 use mathlib.Core.List.{List}
-use prog.Wp.{Heap}
 use contract.Running.{givenOf, tables, tablesOf}
 use denote.Triple.Spec.{tripleOf}
 use denote.Triple.Table.{entered, cited}

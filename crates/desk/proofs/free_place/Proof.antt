@@ -1,65 +1,30 @@
 -- The lowest free place is found, or there is none. Assumes nothing.
-use mathlib.Core.Path.{_≡_, refl}
-use Prim.Native.Nat.{_≤_, _-_}
+use Prim.Native.Nat.{_-_}
 use native.Mathlib.Omega.{arith}
 use borrow.Author.Needs.{needs}
 use borrow.Author.Tests.{eq-eqb, ne-eqb}
-use lib.ListN.{length, drop}
-use Rattle.desk.specs.Places.{isFreePlace, noPlace, findBy}
-use Rattle.desk.specs.Finding.{found-here, found-later, found-nowhere}
+use Rattle.desk.specs.Places.{isFreePlace, noPlace}
+use Rattle.desk.specs.Finding.{Searching, search-starts, found-here, found-later, found-nowhere}
 use Rattle.desk.proofs.free_place.Statement.{statement}
 use Rattle.desk.proofs.free_place.Tie as tie
 
 abbrev Inv-loop : tie.InvT-loop
-Inv-loop places i₀ i = (i ≤ 8) × (length places ≡ 8) × (findBy isFreePlace (drop i places) i ≡ findBy isFreePlace places 0)
+Inv-loop places i₀ i = Searching isFreePlace places 8 i
 
 abbrev μ-loop : tie.MeasureT-loop
 μ-loop places i₀ i = 8 - i
 
-loop-holds : tie.Need-loop-holds Inv-loop μ-loop
-loop-holds c = (omega arith, search needs, refl)
-
-mul-p : tie.Need-mul-p Inv-loop μ-loop
-mul-p c = search needs
-
-array-copy-out-p : tie.Need-array-copy-out-p Inv-loop μ-loop
-array-copy-out-p c = search needs
-
 returns : tie.Need-returns Inv-loop μ-loop
-returns c =
-    let l = c .before .before .before .before .loop in
-    let a = c .before .before .before .before .before .args in
-    (found-here isFreePlace noPlace _ (a .t1) (l .i) (l .inv .2) (omega arith) (eq-eqb _ _ (c .if1 .taken)), omega arith)
-
-add-i : tie.Need-add-i Inv-loop μ-loop
-add-i c = omega arith
-
-loop-less : tie.Need-loop-less Inv-loop μ-loop
-loop-less c = omega arith
+returns c = found-here (c .before .before .before .before .loop .inv) noPlace (omega arith) (eq-eqb _ _ (c .if1 .taken))
 
 loop-again : tie.Need-loop-again Inv-loop μ-loop
-loop-again c =
-    let l = c .before .before .before .before .loop in
-    let a = c .before .before .before .before .before .args in
-    (omega arith, l .inv .1, found-later isFreePlace noPlace _ (a .t1) (l .i) (l .inv .2) (omega arith) (ne-eqb _ _ (c .if1 .left)))
+loop-again c = found-later (c .before .before .before .before .loop .inv) noPlace (omega arith) (ne-eqb _ _ (c .if1 .left))
 
 returns-2 : tie.Need-returns-2 Inv-loop μ-loop
-returns-2 c =
-    let l = c .before .loop in
-    let a = c .before .before .args in
-    (found-nowhere isFreePlace noPlace _ (a .t1) (l .i) (l .inv .2) (omega arith), tt)
+returns-2 c = found-nowhere (c .before .loop .inv) (omega arith)
 
 pub free-place-spec : {M : Type 1} → statement M
 free-place-spec =
     tie.close
-    (tie.spec
-    Inv-loop
-    μ-loop
-    loop-holds
-    mul-p
-    array-copy-out-p
-    returns
-    add-i
-    loop-less
-    loop-again
-    returns-2)
+    (tie.spec Inv-loop μ-loop (λ c. search-starts (search needs)) (λ c. search needs) (λ c. search needs) returns (λ c. omega arith) (λ c. omega
+    arith) loop-again returns-2)

@@ -9,15 +9,6 @@ use Rattle.desk.proofs.with_place.Tie as tie
 within : (c : tie.After-known-told) → c .before .found .given .0 .0 < 8
 within c = rw (c .before .found .given .1) at (c .before .before .before .pre)
 
-enum-known-found : tie.Need-enum-known-found
-enum-known-found c = search needs
-
-enum-told : tie.Need-enum-told
-enum-told c = search needs
-
-returns : tie.Need-returns
-returns c = search needs
-
 mul-p : tie.Need-mul-p
 mul-p c = let h = within c in omega arith
 
@@ -28,5 +19,4 @@ returns-2 : tie.Need-returns-2
 returns-2 c = rw (c .before .found .given .1)
 
 pub with-place-spec : {M : Type 1} → statement M
-with-place-spec =
-    tie.close (tie.spec enum-known-found enum-told returns mul-p element-set-from-p returns-2)
+with-place-spec = tie.close (tie.spec (λ c. search needs) (λ c. search needs) (λ c. search needs) mul-p element-set-from-p returns-2)

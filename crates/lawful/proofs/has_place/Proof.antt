@@ -1,60 +1,31 @@
 -- The rest has one under the key where all has. Assumes nothing.
-use mathlib.Core.Path.{_≡_, refl, sym, _∙_}
+use mathlib.Core.Path.{sym, _∙_}
 use Prim.Native.Nat.{_-_}
 use native.Mathlib.Omega.{arith}
 use borrow.Author.Needs.{needs}
-use lib.ListN.{length, drop}
+use lib.ListN.{drop}
 use Rattle.desk.specs.Places.{isPlaceOf, noPlace}
 use Rattle.desk.specs.Lawful.{any}
-use Rattle.lawful.specs.Loops.{any-found, any-passed, any-end}
+use Rattle.lawful.specs.Loops.{Left, left-starts, any-found, any-passed, any-end}
 use Rattle.lawful.proofs.has_place.Statement.{statement}
 use Rattle.lawful.proofs.has_place.Tie as tie
 
 abbrev Inv-loop : tie.InvT-loop
-Inv-loop from key places i₀ i = (length places ≡ 8) × (any (isPlaceOf key) (drop i places) ≡ any (isPlaceOf key) (drop from places))
+Inv-loop from key places i₀ i = Left any (isPlaceOf key) (any (isPlaceOf key) (drop from places)) places 8 i
 
 abbrev μ-loop : tie.MeasureT-loop
 μ-loop from key places i₀ i = 8 - i
 
-loop-holds : tie.Need-loop-holds Inv-loop μ-loop
-loop-holds c = (search needs, refl)
-
-mul-q : tie.Need-mul-q Inv-loop μ-loop
-mul-q c = search needs
-
-array-copy-out-q : tie.Need-array-copy-out-q Inv-loop μ-loop
-array-copy-out-q c = search needs
-
-is-under-requires : tie.Need-is-under-requires Inv-loop μ-loop
-is-under-requires c κs = search needs
-
 returns : tie.Need-returns Inv-loop μ-loop
-returns c = any-found (isPlaceOf (c .before .before .before .before .before .args .key)) noPlace _ (c .before .before .before .before .before .args .t1) (c .before .before .before .before .loop .i) (c .before .before .before .before .loop .inv .1) (omega arith) (sym (c .before .is-under .ensures) ∙ c .if1 .taken)
-
-add-i : tie.Need-add-i Inv-loop μ-loop
-add-i c = omega arith
-
-loop-less : tie.Need-loop-less Inv-loop μ-loop
-loop-less c = omega arith
+returns c = any-found (c .before .before .before .before .loop .inv) noPlace (omega arith) (sym (c .before .is-under .ensures) ∙ c .if1 .taken)
 
 loop-again : tie.Need-loop-again Inv-loop μ-loop
-loop-again c = (c .before .before .before .before .loop .inv .0, any-passed (isPlaceOf (c .before .before .before .before .before .args .key)) noPlace _ (c .before .before .before .before .before .args .t1) (c .before .before .before .before .loop .i) (c .before .before .before .before .loop .inv .1) (omega arith) (sym (c .before .is-under .ensures) ∙ c .if1 .left))
+loop-again c = any-passed (c .before .before .before .before .loop .inv) noPlace (omega arith) (sym (c .before .is-under .ensures) ∙ c .if1 .left)
 
 returns-2 : tie.Need-returns-2 Inv-loop μ-loop
-returns-2 c = any-end (isPlaceOf (c .before .before .args .key)) noPlace _ (c .before .before .args .t1) (c .before .loop .i) (c .before .loop .inv .1) (omega arith)
+returns-2 c = any-end (c .before .loop .inv) (omega arith)
 
 pub has-place-spec : {M : Type 1} → statement M
 has-place-spec =
-    tie.close
-    (tie.spec
-    Inv-loop
-    μ-loop
-    loop-holds
-    mul-q
-    array-copy-out-q
-    is-under-requires
-    returns
-    add-i
-    loop-less
-    loop-again
-    returns-2)
+    tie.close (tie.spec Inv-loop μ-loop (λ c. left-starts (search needs)) (λ c. search needs) (λ c. search needs) (λ c κs. search needs) returns (λ c.
+    omega arith) (λ c. omega arith) loop-again returns-2)

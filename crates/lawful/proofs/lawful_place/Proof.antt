@@ -6,9 +6,6 @@ use borrow.Author.Needs.{needs}
 use Rattle.lawful.proofs.lawful_place.Statement.{statement}
 use Rattle.lawful.proofs.lawful_place.Tie as tie
 
-free-right-requires : tie.Need-free-right-requires
-free-right-requires c κs = search needs
-
 returns : tie.Need-returns
 unfolding lawfulPlace
 returns c = rw (eq-eqb _ _ (c .before .if1 .taken)) (c .free-right .ensures)
@@ -17,45 +14,42 @@ returns-2 : tie.Need-returns-2
 unfolding lawfulPlace
 returns-2 c = rw (ne-eqb _ _ (c .before .before .if1 .left), lt-leb _ _ (c .if2 .taken))
 
-lawful-key-requires : tie.Need-lawful-key-requires
-lawful-key-requires c κs = search needs
-
 returns-3 : tie.Need-returns-3
 unfolding lawfulPlace
-returns-3 c = rw (ne-eqb _ _ (c .before .before .before .before .if1 .left), le-leb _ _ (c .before .before .if2 .left), sym (c .before .lawful-key .ensures) ∙ not-true _ (c .if3 .taken))
-
-slice-aggregate-low-indexes : tie.Need-slice-aggregate-low-indexes
-slice-aggregate-low-indexes c = search needs
-
-low-indexes-requires : tie.Need-low-indexes-requires
-low-indexes-requires c κs = search needs
+returns-3 c =
+    rw (
+      ne-eqb _ _ (c .before .before .before .before .if1 .left),
+      le-leb _ _ (c .before .before .if2 .left),
+      sym (c .before .lawful-key .ensures) ∙
+          not-true _ (c .if3 .taken),
+    )
 
 returns-4 : tie.Need-returns-4
 unfolding lawfulPlace
-returns-4 c = rw (ne-eqb _ _ (c .before .before .before .before .before .before .before .before .before .if1 .left), le-leb _ _ (c .before .before .before .before .before .before .before .if2 .left), sym (c .before .before .before .before .before .before .lawful-key .ensures) ∙ not-false _ (c .before .before .before .before .before .if3 .left), eq-eqb _ _ (c .before .before .if4 .taken)) (c .low-indexes .ensures)
-
-slice-aggregate-zero-from : tie.Need-slice-aggregate-zero-from
-slice-aggregate-zero-from c = search needs
-
-zero-from-requires : tie.Need-zero-from-requires
-zero-from-requires c κs = search needs
+returns-4 c =
+    rw (
+      ne-eqb _ _ (c .before .before .before .before .before .before .before .before .before .if1 .left),
+      le-leb _ _
+          (c .before .before .before .before .before .before .before .if2 .left),
+      sym
+          (c .before .before .before .before .before .before .lawful-key .ensures) ∙ not-false _ (c .before .before .before .before .before .if3 .left),
+      eq-eqb _ _ (c .before .before .if4 .taken),
+    ) (c .low-indexes .ensures)
 
 returns-5 : tie.Need-returns-5
 unfolding lawfulPlace
-returns-5 c = rw (ne-eqb _ _ (c .before .before .before .before .before .before .before .before .before .if1 .left), le-leb _ _ (c .before .before .before .before .before .before .before .if2 .left), sym (c .before .before .before .before .before .before .lawful-key .ensures) ∙ not-false _ (c .before .before .before .before .before .if3 .left), ne-eqb _ _ (c .before .before .if4 .left)) (c .zero-from .ensures)
+returns-5 c =
+    rw (
+      ne-eqb _ _ (c .before .before .before .before .before .before .before .before .before .if1 .left),
+      le-leb _ _
+          (c .before .before .before .before .before .before .before .if2 .left),
+      sym
+          (c .before .before .before .before .before .before .lawful-key .ensures) ∙ not-false _ (c .before .before .before .before .before .if3 .left),
+      ne-eqb _ _ (c .before .before .if4 .left),
+    ) (c .zero-from .ensures)
 
 pub lawful-place-spec : {M : Type 1} → statement M
 lawful-place-spec =
     tie.close
-    (tie.spec
-    free-right-requires
-    returns
-    returns-2
-    lawful-key-requires
-    returns-3
-    slice-aggregate-low-indexes
-    low-indexes-requires
-    returns-4
-    slice-aggregate-zero-from
-    zero-from-requires
-    returns-5)
+    (tie.spec (λ c κs. search needs) returns returns-2 (λ c κs. search needs) returns-3 (λ c. search needs) (λ c κs. search needs) returns-4
+    (λ c. search needs) (λ c κs. search needs) returns-5)

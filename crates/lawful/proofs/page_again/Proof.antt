@@ -9,24 +9,12 @@ use borrow.Author.Needs.{needs}
 use Rattle.lawful.proofs.page_again.Statement.{statement}
 use Rattle.lawful.proofs.page_again.Tie as tie
 
-mul-p : tie.Need-mul-p
-mul-p c = search needs
-
-array-copy-out-p : tie.Need-array-copy-out-p
-array-copy-out-p c = search needs
-
 returns : tie.Need-returns
 returns c =
     let a = c .before .before .before .args in
     let p = getD (a .t1) (a .i) noPage in
     let e = any-and (isUsed (p .state)) (isPageOf (record { school = p .school; class = p .class })) (drop (a .i + 1) (a .t1)) in
     sym (e ∙ rw (eq-eqb _ _ (c .if1 .taken)))
-
-add-has-page : tie.Need-add-has-page
-add-has-page c = search needs
-
-has-page-requires : tie.Need-has-page-requires
-has-page-requires c κs = search needs
 
 returns-2 : tie.Need-returns-2
 returns-2 c =
@@ -36,5 +24,4 @@ returns-2 c =
     c .has-page .ensures ∙ sym (e ∙ rw (ne-eqb _ _ (c .before .if1 .left)))
 
 pub page-again-spec : {M : Type 1} → statement M
-page-again-spec =
-    tie.close (tie.spec mul-p array-copy-out-p returns add-has-page has-page-requires returns-2)
+page-again-spec = tie.close (tie.spec (λ c. search needs) (λ c. search needs) returns (λ c. search needs) (λ c κs. search needs) returns-2)

@@ -9,24 +9,12 @@ use borrow.Author.Needs.{needs}
 use Rattle.lawful.proofs.place_again.Statement.{statement}
 use Rattle.lawful.proofs.place_again.Tie as tie
 
-mul-q : tie.Need-mul-q
-mul-q c = search needs
-
-array-copy-out-q : tie.Need-array-copy-out-q
-array-copy-out-q c = search needs
-
 returns : tie.Need-returns
 returns c =
     let a = c .before .before .before .args in
     let p = getD (a .t1) (a .i) noPlace in
     let e = any-and (isUsed (p .state)) (isPlaceOf (record { school = p .school; class = p .class })) (drop (a .i + 1) (a .t1)) in
     sym (e ∙ rw (eq-eqb _ _ (c .if1 .taken)))
-
-add-has-place : tie.Need-add-has-place
-add-has-place c = search needs
-
-has-place-requires : tie.Need-has-place-requires
-has-place-requires c κs = search needs
 
 returns-2 : tie.Need-returns-2
 returns-2 c =
@@ -36,5 +24,4 @@ returns-2 c =
     c .has-place .ensures ∙ sym (e ∙ rw (ne-eqb _ _ (c .before .if1 .left)))
 
 pub place-again-spec : {M : Type 1} → statement M
-place-again-spec =
-    tie.close (tie.spec mul-q array-copy-out-q returns add-has-place has-place-requires returns-2)
+place-again-spec = tie.close (tie.spec (λ c. search needs) (λ c. search needs) returns (λ c. search needs) (λ c κs. search needs) returns-2)

@@ -7,11 +7,8 @@ use Rattle.lawful.proofs.place_paged.Tie as tie
 returns : tie.Need-returns
 returns c = rw (ne-eqb _ _ (c .if1 .taken))
 
-has-page-requires : tie.Need-has-page-requires
-has-page-requires c κs = search needs
-
 returns-2 : tie.Need-returns-2
 returns-2 c = rw (eq-eqb _ _ (c .before .if1 .left)) (c .has-page .ensures)
 
 pub place-paged-spec : {M : Type 1} → statement M
-place-paged-spec = tie.close (tie.spec returns has-page-requires returns-2)
+place-paged-spec = tie.close (tie.spec returns (λ c κs. search needs) returns-2)

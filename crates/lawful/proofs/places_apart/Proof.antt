@@ -1,52 +1,30 @@
 -- The rest is apart where all is. Assumes nothing.
-use mathlib.Core.Path.{_≡_, refl, sym, _∙_}
+use mathlib.Core.Path.{sym, _∙_}
 use Prim.Native.Nat.{_-_}
 use native.Mathlib.Omega.{arith}
 use borrow.Author.Needs.{needs}
-use lib.ListN.{length, drop}
 use Rattle.desk.specs.Places.{noPlace}
 use Rattle.desk.specs.Lawful.{apart, samePlaces}
-use Rattle.lawful.specs.Loops.{apart-failed, apart-passed, apart-end}
+use Rattle.lawful.specs.Loops.{Left, left-starts, apart-failed, apart-passed, apart-end}
 use Rattle.lawful.proofs.places_apart.Statement.{statement}
 use Rattle.lawful.proofs.places_apart.Tie as tie
 
 abbrev Inv-loop : tie.InvT-loop
-Inv-loop places i₀ i = (length places ≡ 8) × (apart samePlaces (drop i places) ≡ apart samePlaces places)
+Inv-loop places i₀ i = Left apart samePlaces (apart samePlaces places) places 8 i
 
 abbrev μ-loop : tie.MeasureT-loop
 μ-loop places i₀ i = 8 - i
 
-loop-holds : tie.Need-loop-holds Inv-loop μ-loop
-loop-holds c = (search needs, refl)
-
-place-again-requires : tie.Need-place-again-requires Inv-loop μ-loop
-place-again-requires c κs = omega arith
-
 returns : tie.Need-returns Inv-loop μ-loop
-returns c = apart-failed samePlaces noPlace _ (c .before .before .before .before .args .places) (c .before .before .before .loop .i) (c .before .before .before .loop .inv .1) (omega arith) (sym (c .before .place-again .ensures) ∙ c .if1 .taken)
-
-add-i : tie.Need-add-i Inv-loop μ-loop
-add-i c = omega arith
-
-loop-less : tie.Need-loop-less Inv-loop μ-loop
-loop-less c = omega arith
+returns c = apart-failed (c .before .before .before .loop .inv) noPlace (omega arith) (sym (c .before .place-again .ensures) ∙ c .if1 .taken)
 
 loop-again : tie.Need-loop-again Inv-loop μ-loop
-loop-again c = (c .before .before .before .loop .inv .0, apart-passed samePlaces noPlace _ (c .before .before .before .before .args .places) (c .before .before .before .loop .i) (c .before .before .before .loop .inv .1) (omega arith) (sym (c .before .place-again .ensures) ∙ c .if1 .left))
+loop-again c = apart-passed (c .before .before .before .loop .inv) noPlace (omega arith) (sym (c .before .place-again .ensures) ∙ c .if1 .left)
 
 returns-2 : tie.Need-returns-2 Inv-loop μ-loop
-returns-2 c = apart-end samePlaces noPlace _ (c .before .before .args .places) (c .before .loop .i) (c .before .loop .inv .1) (omega arith)
+returns-2 c = apart-end (c .before .loop .inv) (omega arith)
 
 pub places-apart-spec : {M : Type 1} → statement M
 places-apart-spec =
-    tie.close
-    (tie.spec
-    Inv-loop
-    μ-loop
-    loop-holds
-    place-again-requires
-    returns
-    add-i
-    loop-less
-    loop-again
-    returns-2)
+    tie.close (tie.spec Inv-loop μ-loop (λ c. left-starts {i = 0} (search needs)) (λ c κs. omega arith) returns (λ c. omega arith) (λ c. omega arith)
+    loop-again returns-2)

@@ -14,34 +14,30 @@ returns-2 c = rw (eq-eqb _ _ (c .before .before .if1 .left), ne-eqb _ _ (c .if2 
 returns-3 : tie.Need-returns-3
 returns-3 c = rw (eq-eqb _ _ (c .before .before .before .before .if1 .left), eq-eqb _ _ (c .before .before .if2 .left), ne-eqb _ _ (c .if3 .taken))
 
-slice-aggregate-zero-from : tie.Need-slice-aggregate-zero-from
-slice-aggregate-zero-from c = search needs
-
-zero-from-requires : tie.Need-zero-from-requires
-zero-from-requires c κs = search needs
-
 returns-4 : tie.Need-returns-4
-returns-4 c = rw (eq-eqb _ _ (c .before .before .before .before .before .before .before .before .if1 .left), eq-eqb _ _ (c .before .before .before .before .before .before .if2 .left), eq-eqb _ _ (c .before .before .before .before .if3 .left), sym (c .before .zero-from .ensures) ∙ not-true _ (c .if4 .taken))
-
-slice-aggregate-zero-from-2 : tie.Need-slice-aggregate-zero-from-2
-slice-aggregate-zero-from-2 c = search needs
-
-zero-from-requires-2 : tie.Need-zero-from-requires-2
-zero-from-requires-2 c κs = search needs
+returns-4 c =
+    rw (
+      eq-eqb _ _ (c .before .before .before .before .before .before .before .before .if1 .left),
+      eq-eqb _ _
+          (c .before .before .before .before .before .before .if2 .left),
+      eq-eqb _ _ (c .before .before .before .before .if3 .left),
+      sym
+          (c .before .zero-from .ensures) ∙ not-true _ (c .if4 .taken),
+    )
 
 returns-5 : tie.Need-returns-5
-returns-5 c = rw (eq-eqb _ _ (c .before .before .before .before .before .before .before .before .before .before .before .if1 .left), eq-eqb _ _ (c .before .before .before .before .before .before .before .before .before .if2 .left), eq-eqb _ _ (c .before .before .before .before .before .before .before .if3 .left), sym (c .before .before .before .before .zero-from .ensures) ∙ not-false _ (c .before .before .before .if4 .left)) (c .zero-from2 .ensures)
+returns-5 c =
+    rw (
+      eq-eqb _ _ (c .before .before .before .before .before .before .before .before .before .before .before .if1 .left),
+      eq-eqb _ _
+          (c .before .before .before .before .before .before .before .before .before .if2 .left),
+      eq-eqb _ _
+          (c .before .before .before .before .before .before .before .if3 .left),
+      sym (c .before .before .before .before .zero-from .ensures) ∙ not-false _
+          (c .before .before .before .if4 .left),
+    ) (c .zero-from2 .ensures)
 
 pub unused-right-spec : {M : Type 1} → statement M
 unused-right-spec =
-    tie.close
-    (tie.spec
-    returns
-    returns-2
-    returns-3
-    slice-aggregate-zero-from
-    zero-from-requires
-    returns-4
-    slice-aggregate-zero-from-2
-    zero-from-requires-2
+    tie.close (tie.spec returns returns-2 returns-3 (λ c. search needs) (λ c κs. search needs) returns-4 (λ c. search needs) (λ c κs. search needs)
     returns-5)

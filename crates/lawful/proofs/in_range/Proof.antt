@@ -1,7 +1,7 @@
 -- The number is tested from both sides. Assumes nothing.
 use borrow.Author.Tests.{le-leb, lt-leb}
-use Rattle.calls.proofs.in_range.Statement.{statement}
-use Rattle.calls.proofs.in_range.Tie as tie
+use Rattle.lawful.proofs.in_range.Statement.{statement}
+use Rattle.lawful.proofs.in_range.Tie as tie
 
 returns : tie.Need-returns
 returns c = simp (le-leb _ _ (c .if1 .taken))
