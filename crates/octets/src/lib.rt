@@ -83,6 +83,23 @@ pub fn byte_out(low: u64, held: u64, scale: u64) -> Byte
     }
 }
 
+// The registers after a byte and i shifts more; `next` has the width and the count then.
+fn after_byte(next: Interval, b: Byte, i: u64) -> Coder
+    requires { ⌜ i ≤ b .bits ⌝ }
+    ensures { λ r. ⌜ r ≡ record { interval = record { low = b .low; width = next .width; count = next .count }; until = b .bits - i; held = b .held } ⌝ }
+{
+    let interval = Interval {
+        low: b.low,
+        width: next.width,
+        count: next.count,
+    };
+    Coder {
+        interval: interval,
+        until: b.bits - i,
+        held: b.held,
+    }
+}
+
 // The bytes of a pel whose last byte goes out before its last j shifts: `next` is the interval after all k of them.
 pub fn settle(next: Interval, held: u64, j: u64, k: u64) -> Put
     requires { ⌜ (held ≤ 255) × (j ≤ 11) × (next .low < 33554432 * 2 ^ j) ⌝ }
@@ -90,16 +107,7 @@ pub fn settle(next: Interval, held: u64, j: u64, k: u64) -> Put
 {
     let b = byte_out(next.low, held, power(j));
     if j < b.bits {
-        let interval = Interval {
-            low: b.low,
-            width: next.width,
-            count: next.count,
-        };
-        let coder = Coder {
-            interval: interval,
-            until: b.bits - j,
-            held: b.held,
-        };
+        let coder = after_byte(next, b, j);
         return Put {
             coder: coder,
             shifts: k,
@@ -110,22 +118,26 @@ pub fn settle(next: Interval, held: u64, j: u64, k: u64) -> Put
     }
     let i = j - b.bits;
     let d = byte_out(b.low, b.held, power(i));
-    let interval = Interval {
-        low: d.low,
-        width: next.width,
-        count: next.count,
-    };
-    let coder = Coder {
-        interval: interval,
-        until: d.bits - i,
-        held: d.held,
-    };
+    let coder = after_byte(next, d, i);
     Put {
         coder: coder,
         shifts: k,
         settled: 2,
         first: b.settled,
         second: d.settled,
+    }
+}
+
+// No byte is settled by these k shifts.
+fn none_settled(coder: Coder, k: u64) -> Put
+    ensures { λ r. ⌜ r ≡ record { coder = coder; shifts = k; settled = 0; first = 0; second = 0 } ⌝ }
+{
+    Put {
+        coder: coder,
+        shifts: k,
+        settled: 0,
+        first: 0,
+        second: 0,
     }
 }
 
@@ -159,13 +171,7 @@ impl Coder {
                 until: until,
                 held: held,
             };
-            return Put {
-                coder: coder,
-                shifts: 0,
-                settled: 0,
-                first: 0,
-                second: 0,
-            };
+            return none_settled(coder, 0);
         }
         if k < until {
             let coder = Coder {
@@ -173,13 +179,7 @@ impl Coder {
                 until: until - k,
                 held: held,
             };
-            return Put {
-                coder: coder,
-                shifts: k,
-                settled: 0,
-                first: 0,
-                second: 0,
-            };
+            return none_settled(coder, k);
         }
         settle(next, held, k - until, k)
     }

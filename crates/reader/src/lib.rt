@@ -1,6 +1,6 @@
 // Bands read back: the reader is the writer, told each pel by the code.
 ghost use mathlib.Core.Path.{_≡_};
-ghost use mathlib.Core.Bool.{_&&_};
+ghost use mathlib.Core.Bool.{false, _&&_};
 ghost use mathlib.Core.List.{[], _∷_};
 ghost use Prim.Native.Nat.{ℕ, _+_, _-_, _*_, _%_, _≤_, _<_, _^_};
 ghost use lib.Dec.{eqb};
@@ -223,8 +223,7 @@ pub fn pel_in_byte(p: u8, x: usize) -> u8
 
 // One row, under the row above it.
 pub fn read_row(code: &[u8], above: &[u8], width: usize, start: Reading) -> Line
-    requires { ⌜ (width ≤ 2048) × (width ≤ 8 * length (now above)) × (1 ≤ width) × LawfulTable (start .table .entries) × Ready (lift (start .coder) []) × (start .coder .interval .count < 2 ^ 31) × (start .at < 800000000)
-        × (start .view .at ≤ length (now code)) × (start .view .look ≤ 7) × (start .view .x < 2 ^ 32) ⌝ }
+    requires { ⌜ (width ≤ 2048) × (width ≤ 8 * length (now above)) × (1 ≤ width) × LawfulTable (start .table .entries) × Ready (lift (start .coder) []) × (start .coder .interval .count < 2 ^ 31) × (start .at < 800000000) × (start .view .at ≤ length (now code)) × (start .view .look ≤ 7) × (start .view .x < 2 ^ 32) ⌝ }
     ensures { λ r. ⌜ LineRead width (pelsTo (now (above .entry)) width) (now (code .entry)) start r ⌝ }
 {
     let mut coder = start.coder;
@@ -248,21 +247,19 @@ pub fn read_row(code: &[u8], above: &[u8], width: usize, start: Reading) -> Line
         view = told.view;
         good = match_two(code, at, v.settled, v.first, v.second, good);
         at = at + v.settled;
-        let i = x / 8;
-        row[i] = row[i] + pel_in_byte(p, x);
+        row[x / 8] = row[x / 8] + pel_in_byte(p, x);
         window = window.slide(above, width, x, p);
         x += 1;
     }
-    let reading = Reading {
-        coder: coder,
-        table: table,
-        at: at,
-        good: good,
-        view: view,
-    };
     Line {
         row: row,
-        reading: reading,
+        reading: Reading {
+            coder: coder,
+            table: table,
+            at: at,
+            good: good,
+            view: view,
+        },
     }
 }
 
@@ -340,6 +337,20 @@ pub fn as_long(same: bool, n: usize, len: usize) -> bool
     if same { n == len } else { false }
 }
 
+// Nothing is read, for want of room or of a good code.
+fn not_read(room: bool, table: Table, last: [u8; 256]) -> Read
+    ensures { λ r. ⌜ r ≡ record { room = room; good = false; length = 0; shifts = 0; table = table; last = last } ⌝ }
+{
+    Read {
+        room: room,
+        good: false,
+        length: 0,
+        shifts: 0,
+        table: table,
+        last: last,
+    }
+}
+
 // A band back into a lent buffer: its rows in front and the rest kept; all zero where there is no room, or where no band was written so.
 pub fn read_band(
     table: Table,
@@ -355,14 +366,7 @@ pub fn read_band(
     let length = rows * template::row_bytes(width);
     if out.len() < length {
         store::clear(out);
-        return Read {
-            room: false,
-            good: false,
-            length: 0,
-            shifts: 0,
-            table: table,
-            last: last,
-        };
+        return not_read(false, table, last);
     }
     let done = read_rows(table, last, width, rows, code, out);
     let reading = done.reading;
@@ -383,12 +387,5 @@ pub fn read_band(
         };
     }
     store::clear(out);
-    Read {
-        room: true,
-        good: false,
-        length: 0,
-        shifts: 0,
-        table: table,
-        last: last,
-    }
+    not_read(true, table, last)
 }

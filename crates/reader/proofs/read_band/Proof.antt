@@ -12,11 +12,9 @@ use Rattle.reader.specs.Ends.{read-done, read-damaged, read-nothing, fit
 use Rattle.reader.proofs.read_band.Statement.{statement}
 use Rattle.reader.proofs.read_band.Tie as tie
 
--- src/lib.rt:333:25
 row-bytes-requires : tie.Need-row-bytes-requires
 row-bytes-requires c κs = search needs
 
--- src/lib.rt:333:18
 mul-length : tie.Need-mul-length
 mul-length c =
     omega (
@@ -26,23 +24,19 @@ mul-length c =
       c .before .before .before .pre .1,
     )
 
--- src/lib.rt:335:9
 clear-requires : tie.Need-clear-requires
 clear-requires c κs = search needs
 
--- src/lib.rt:336:9
 same-length : tie.Need-same-length
 same-length c = search needs
 
--- src/lib.rt:336:9
 returns : tie.Need-returns
 returns c =
-    let a = c .before .before .before .before .before .before .before .before .args in
-    read-nothing (a .width) (a .rows) (a .table) (a .last) (a .code .now) (a .out .now) _ (fits-not (a .width) (a .rows)
-    (c .before .before .before .before .before .row-bytes .result) (a .out .now) (c .before .before .before .before .before .row-bytes .ensures)
-    (c .before .before .before .before .if1 .taken)) (c .before .before .clear .ensures)
+    let a = c .before .before .before .before .before .before .before .before .before .args in
+    rw (c .not-read .ensures) (read-nothing (a .width) (a .rows) (a .table) (a .last) (a .code .now) (a .out .now) _ (fits-not (a .width) (a .rows)
+    (c .before .before .before .before .before .before .row-bytes .result) (a .out .now) (c .before .before .before .before .before .before .row-bytes .ensures)
+    (c .before .before .before .before .before .if1 .taken)) (c .before .before .before .clear .ensures))
 
--- src/lib.rt:338:9
 read-rows-requires : tie.Need-read-rows-requires
 read-rows-requires c κs =
     let q = c .before .before .before .before .before .pre in (
@@ -53,31 +47,24 @@ read-rows-requires c κs =
       q .4,
     )
 
--- src/lib.rt:341:9
 finish-requires : tie.Need-finish-requires
 finish-requires c κs = search needs
 
--- src/lib.rt:343:9
 match-last-requires : tie.Need-match-last-requires
 match-last-requires c κs = search needs
 
--- src/lib.rt:344:22
 add-as-long : tie.Need-add-as-long
 add-as-long c = search needs
 
--- src/lib.rt:344:22
 sub-as-long : tie.Need-sub-as-long
 sub-as-long c = search needs
 
--- src/lib.rt:344:8
 as-long-requires : tie.Need-as-long-requires
 as-long-requires c κs = search needs
 
--- src/lib.rt:347:9
 same-length-2 : tie.Need-same-length-2
 same-length-2 c = search needs
 
--- src/lib.rt:347:9
 returns-2 : tie.Need-returns-2
 returns-2 c =
     let a = c .before .before .before .before .before .before .before .before .before .before .before .before .before .before .before .before .before .before .before .args
@@ -102,40 +89,37 @@ returns-2 c =
     f .result .count - 1) (length (a .code .now)) true (c .before .before .before .before .before .before .match-last .ensures)
     (c .before .before .before .as-long .ensures) (c .before .before .if2 .taken)))
 
--- src/lib.rt:349:5
 clear-requires-2 : tie.Need-clear-requires-2
 clear-requires-2 c κs = search needs
 
--- src/lib.rt:329:1
 same-length-3 : tie.Need-same-length-3
 same-length-3 c = search needs
 
--- src/lib.rt:329:1
 returns-3 : tie.Need-returns-3
 returns-3 c =
-    let a = c .before .before .before .before .before .before .before .before .before .before .before .before .before .before .before .before .before .before .before .before .before .args
+    let a = c .before .before .before .before .before .before .before .before .before .before .before .before .before .before .before .before .before .before .before .before .before .before .args
     in
-    let d = c .before .before .before .before .before .before .before .before .before .before .before .before .before .before .before .read-rows in
-    let f = c .before .before .before .before .before .before .before .before .before .before .finish in
+    let d = c .before .before .before .before .before .before .before .before .before .before .before .before .before .before .before .before .read-rows in
+    let f = c .before .before .before .before .before .before .before .before .before .before .before .finish in
     let n : length (f .result .bytes) ≡ 5 = search needs in
     let k : length (take (f .result .count) (f .result .bytes)) ≡ f .result .count = length-take-le (f .result .count) (f .result .bytes) (omega
     (arith, f .ensures .2)) in
     let z = fits-when (a .width) (a .rows)
-    (c .before .before .before .before .before .before .before .before .before .before .before .before .before .before .before .before .before .before .row-bytes .result)
+    (c .before .before .before .before .before .before .before .before .before .before .before .before .before .before .before .before .before .before .before .row-bytes .result)
     (a .out .now)
-    (c .before .before .before .before .before .before .before .before .before .before .before .before .before .before .before .before .before .before .row-bytes .ensures)
-    (c .before .before .before .before .before .before .before .before .before .before .before .before .before .before .before .before .before .if1 .left)
+    (c .before .before .before .before .before .before .before .before .before .before .before .before .before .before .before .before .before .before .before .row-bytes .ensures)
+    (c .before .before .before .before .before .before .before .before .before .before .before .before .before .before .before .before .before .before .if1 .left)
     in
-    read-damaged (a .width) (a .rows) (a .table) (a .last) (a .code .now) (a .out .now) (d .result .last) (d .result .reading) _ (d .ensures) (take
+    rw (c .not-read2 .ensures) (read-damaged (a .width) (a .rows) (a .table) (a .last) (a .code .now) (a .out .now) (d .result .last) (d .result .reading) _ (d .ensures) (take
     (f .result .count) (f .result .bytes)) (f .ensures .0) (omega (arith, f .ensures .1)) z
     (d .result .reading .at + f .result .count) (counted (d .result .reading .at) (f .result .count) _ k)
-    (c .before .before .before .before .before .before .before .before .before .before .before .before .before .before .before .before .before .before .before .before .before .pre .2)
+    (c .before .before .before .before .before .before .before .before .before .before .before .before .before .before .before .before .before .before .before .before .before .before .pre .2)
     (as-compared (d .result .reading .good && matches (a .code .now) (d .result .reading .at) (take (f .result .count) (f .result .bytes)))
-    (c .before .before .before .before .before .before .before .before .match-last .result)
-    (c .before .before .before .before .before .as-long .result) (d .result .reading .at + f .result .count - 1) (length (a .code .now)) false
-    (c .before .before .before .before .before .before .before .before .match-last .ensures)
-    (c .before .before .before .before .before .as-long .ensures) (c .before .before .before .before .if2 .left)) _
-    (c .before .before .clear2 .ensures) (d .kept .1 .1 .1 .1 .1 .0)
+    (c .before .before .before .before .before .before .before .before .before .match-last .result)
+    (c .before .before .before .before .before .before .as-long .result) (d .result .reading .at + f .result .count - 1) (length (a .code .now)) false
+    (c .before .before .before .before .before .before .before .before .before .match-last .ensures)
+    (c .before .before .before .before .before .before .as-long .ensures) (c .before .before .before .before .before .if2 .left)) _
+    (c .before .before .before .clear2 .ensures) (d .kept .1 .1 .1 .1 .1 .0))
 
 pub read-band-spec : {M : Type 1} → statement M
 read-band-spec =
@@ -144,6 +128,7 @@ read-band-spec =
     row-bytes-requires
     mul-length
     clear-requires
+    (λ c κs. tt)
     same-length
     returns
     read-rows-requires
@@ -155,5 +140,6 @@ read-band-spec =
     same-length-2
     returns-2
     clear-requires-2
+    (λ c κs. tt)
     same-length-3
     returns-3)

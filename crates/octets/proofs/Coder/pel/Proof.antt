@@ -1,30 +1,35 @@
 -- One pel is the definition's. Assumes nothing.
-use mathlib.Core.Path.{sym, _∙_}
+use mathlib.Core.Path.{refl, sym, _∙_}
 use native.Mathlib.Omega.{arith}
 use borrow.Author.Needs.{needs}
 use Rattle.octets.specs.OnePel.{low-fits, pel-still, pel-few, pel-bytes, split, left-over}
 use Rattle.octets.proofs.Coder.pel.Statement.{statement}
 use Rattle.octets.proofs.Coder.pel.Tie as tie
 
--- src/lib.rt:99:13
 code-requires : tie.Need-code-requires
 code-requires c κs = let f = c .before .pre .0 in omega (arith, f .wide, f .rest .fit .narrow, low-fits _ (f .rest .fit))
 
 returns : tie.Need-returns
 returns c =
-    let a = c .before .before .before .before .args in
-    let v = c .before .before .code in
-    let z = sym (v .ensures .1) ∙ c .if1 .taken in
-    (rw (v .ensures .0) (pel-still (a .self) (a .q) (a .expected) (c .before .before .before .before .pre .0) (omega arith) (omega arith) z), omega arith, sym z)
-
-sub-t13 : tie.Need-sub-t13
-sub-t13 c = search needs
+    let a = c .before .before .before .before .before .args in
+    let v = c .before .before .before .code in
+    let z = sym (v .ensures .1) ∙ c .before .if1 .taken in
+    rw (c .none-settled .ensures, v .ensures .0) (
+      pel-still (a .self) (a .q) (a .expected) (c .before .before .before .before .before .pre .0) (omega arith) (omega arith) z,
+      omega arith,
+      sym z,
+    )
 
 returns-2 : tie.Need-returns-2
 returns-2 c =
-    let a = c .before .before .before .before .before .args in
-    let v = c .before .before .before .code in
-    (rw (v .ensures .0, v .ensures .1) (pel-few (a .self) (a .q) (a .expected) (c .before .before .before .before .before .pre .0) (omega arith) (omega arith) (rw (v .ensures .1) at (c .if2 .taken))), omega arith, v .ensures .1)
+    let a = c .before .before .before .before .before .before .args in
+    let v = c .before .before .before .before .code in
+    let h = rw (v .ensures .1) at (c .before .if2 .taken) in
+    rw (c .none-settled2 .ensures, v .ensures .0, v .ensures .1) (
+      pel-few (a .self) (a .q) (a .expected) (c .before .before .before .before .before .before .pre .0) (omega arith) (omega arith) h,
+      omega arith,
+      refl,
+    )
 
 settle-requires : tie.Need-settle-requires
 settle-requires c κs =
@@ -45,4 +50,4 @@ returns-3 c =
     (pel-bytes (a .self) (a .q) (a .expected) (c .before .before .before .before .before .before .pre .0) (omega arith) (omega arith) h ∙ t _ _ _ (s .low) (s .width) (s .count), c .settle .ensures .1, c .settle .ensures .0 ∙ v .ensures .1)
 
 pub pel-spec : {M : Type 1} → statement M
-pel-spec = tie.close (tie.spec code-requires returns sub-t13 returns-2 settle-requires returns-3)
+pel-spec = tie.close (tie.spec code-requires (λ c κs. tt) returns (λ c. search needs) (λ c κs. tt) returns-2 settle-requires returns-3)
