@@ -5,22 +5,22 @@ use native.Mathlib.Numerals.{add-one}
 use mathlib.Core.Path.{_≡_, refl}
 use mathlib.Core.Bool.{Bool, true, false, _&&_}
 use mathlib.Core.List.{List}
+use lib.Dec.{eqb}
 use lib.ListN.{length, drop, getD, drop-of-length-le}
 use lib.Seq.{drop-cons}
 use Rattle.desk.specs.declared.Found.{Found}
 use Rattle.desk.specs.declared.Found.the-variants.{At, Nothing}
-use Rattle.desk.specs.Places.{findBy}
+use Rattle.desk.specs.declared.Key.{Key}
+use Rattle.desk.specs.Places.{isUsed, findBy}
 
 -- an index that was found is within
 abbrev pub foundBelow : ℕ → Found → Type 0
 foundBelow n (At i) = i < n
 foundBelow n Nothing = Unit {0}
 
--- a key's tests: past the first two, the last one decides
-pub third : (a b c : Bool) → a ≡ true → b ≡ true → c ≡ a && (b && c)
-third true true c p q = refl
-third true false c p q = let z : _≡_ {A = ℕ} 0 1 = cc in absurd (omega arith)
-third false b c p q = let z : _≡_ {A = ℕ} 0 1 = cc in absurd (omega arith)
+-- used, and under the key: what isPageOf and isPlaceOf ask
+abbrev pub isUnder : ℕ → ℕ → ℕ → Key → Bool
+isUnder state school class k = isUsed state && (eqb school (k .school) && eqb class (k .class))
 
 -- a search among n that has come to the i-th
 pub record Searching {A : Type 0} (test : A → Bool) (xs : List A) (n i : ℕ) : Type 0 where

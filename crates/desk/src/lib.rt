@@ -2,7 +2,7 @@
 ghost use mathlib.Core.Path.{_≡_};
 ghost use Prim.Native.Nat.{_<_};
 ghost use Rattle.desk.specs.Places.{isPageOf, isPlaceOf, isTableOf, isFreePage, isFreePlace, findBy, isFound, unusedPage, freePlace, emptyDesk, withPlace};
-ghost use Rattle.desk.specs.Finding.{foundBelow};
+ghost use Rattle.desk.specs.Finding.{foundBelow, isUnder};
 use estimate::Table;
 
 pub struct Key {
@@ -75,30 +75,17 @@ pub enum Found {
     Nothing,
 }
 
-// An open page of the key: both numbers, the school and the class.
-fn is_page_of(page: Page, key: Key) -> bool
-    ensures { λ r. ⌜ r ≡ isPageOf key page ⌝ }
+// Used, and under the key: both numbers, the school and the class.
+pub fn is_under(state: u64, school: u64, class: u64, key: Key) -> bool
+    ensures { λ r. ⌜ r ≡ isUnder state school class key ⌝ }
 {
-    if page.state == 0 {
+    if state == 0 {
         return false;
     }
-    if page.school == key.school {
-        return page.class == key.class;
-    }
-    false
-}
-
-// A used place of the key.
-fn is_place_of(p: Place, key: Key) -> bool
-    ensures { λ r. ⌜ r ≡ isPlaceOf key p ⌝ }
-{
-    if p.state == 0 {
+    if school != key.school {
         return false;
     }
-    if p.school == key.school {
-        return p.class == key.class;
-    }
-    false
+    class == key.class
 }
 
 // A learned place of the key.
@@ -108,10 +95,7 @@ fn is_table_of(p: Place, key: Key) -> bool
     if p.state != 2 {
         return false;
     }
-    if p.school == key.school {
-        return p.class == key.class;
-    }
-    false
+    is_under(p.state, p.school, p.class, key)
 }
 
 // The open page of the key.
@@ -121,7 +105,7 @@ pub fn find_page(pages: [Page; 4], key: Key) -> Found
     let mut i: usize = 0;
     while i < 4 {
         let p = pages[i];
-        if is_page_of(p, key) {
+        if is_under(p.state, p.school, p.class, key) {
             return Found::At(i);
         }
         i += 1;
@@ -136,7 +120,7 @@ pub fn find_place(places: [Place; 8], key: Key) -> Found
     let mut i: usize = 0;
     while i < 8 {
         let p = places[i];
-        if is_place_of(p, key) {
+        if is_under(p.state, p.school, p.class, key) {
             return Found::At(i);
         }
         i += 1;

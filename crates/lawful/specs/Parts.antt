@@ -9,15 +9,9 @@ use lib.ListN.{take}
 use lib.Seq.{getD-take}
 use Rattle.template.specs.Pels.{rowBytes, rowPadded}
 use Rattle.band.specs.Band.{maxWidth}
-use Rattle.desk.specs.declared.Key.{Key}
 use Rattle.desk.specs.declared.Page.{Page}
 use Rattle.desk.specs.declared.Place.{Place}
-use Rattle.desk.specs.Places.{isUsed}
 use Rattle.desk.specs.Lawful.{within, lawfulKey, lawfulTable, isZero, noStray}
-
--- used, and under that key
-abbrev pub isUnder : ℕ → ℕ → ℕ → Key → Bool
-isUnder state school class k = isUsed state && (eqb school (k .school) && eqb class (k .class))
 
 -- what an open page, and an unused one, must be
 abbrev pub openRight : Page → Bool

@@ -6,7 +6,7 @@ ghost use lib.Dec.{eqb};
 ghost use lib.ListN.{length, getD, drop};
 ghost use Rattle.desk.specs.Places.{isUsed, isPageOf, isPlaceOf, noPage, noPlace};
 ghost use Rattle.desk.specs.Lawful.{within, all, any, apart, lawfulKey, lawfulTable, isZero, noStray, lawfulPage, lawfulPlace, samePages, samePlaces, pageHasPlace, placeHasPage, lawful};
-ghost use Rattle.lawful.specs.Parts.{isUnder, openRight, unusedRight, freeRight};
+ghost use Rattle.lawful.specs.Parts.{openRight, unusedRight, freeRight};
 use desk::Desk;
 use desk::Key;
 use desk::Page;
@@ -70,19 +70,6 @@ fn no_stray(last: &[u8], width: usize) -> bool
         return false;
     }
     zero_from(last, n)
-}
-
-// Whether what has that state and that key is used, and under the key asked for.
-fn is_under(state: u64, school: u64, class: u64, key: Key) -> bool
-    ensures { λ r. ⌜ r ≡ isUnder state school class key ⌝ }
-{
-    if state == 0 {
-        return false;
-    }
-    if school != key.school {
-        return false;
-    }
-    class == key.class
 }
 
 // An open page: its key, width, indexes and last row.
@@ -178,7 +165,7 @@ fn has_page(pages: [Page; 4], from: usize, key: Key) -> bool
     let mut i = from;
     while i < 4 {
         let p = pages[i];
-        if is_under(p.state, p.school, p.class, key) {
+        if desk::is_under(p.state, p.school, p.class, key) {
             return true;
         }
         i += 1;
@@ -193,7 +180,7 @@ fn has_place(places: [Place; 8], from: usize, key: Key) -> bool
     let mut i = from;
     while i < 8 {
         let q = places[i];
-        if is_under(q.state, q.school, q.class, key) {
+        if desk::is_under(q.state, q.school, q.class, key) {
             return true;
         }
         i += 1;

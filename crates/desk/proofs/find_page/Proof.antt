@@ -15,10 +15,10 @@ abbrev μ-loop : tie.MeasureT-loop
 μ-loop key pages i₀ i = 4 - i
 
 returns : tie.Need-returns Inv-loop μ-loop
-returns c = found-here (c .before .before .before .before .loop .inv) noPage (omega arith) (sym (c .before .is-page-of .ensures) ∙ c .if1 .taken)
+returns c = found-here (c .before .before .before .before .loop .inv) noPage (omega arith) (sym (c .before .is-under .ensures) ∙ c .if1 .taken)
 
 loop-again : tie.Need-loop-again Inv-loop μ-loop
-loop-again c = found-later (c .before .before .before .before .loop .inv) noPage (omega arith) (sym (c .before .is-page-of .ensures) ∙ c .if1 .left)
+loop-again c = found-later (c .before .before .before .before .loop .inv) noPage (omega arith) (sym (c .before .is-under .ensures) ∙ c .if1 .left)
 
 returns-2 : tie.Need-returns-2 Inv-loop μ-loop
 returns-2 c = found-nowhere (c .before .loop .inv) (omega arith)

@@ -1,7 +1,7 @@
 -- Used, and both numbers of the key are equal. Assumes nothing.
 use borrow.Author.Tests.{eq-eqb, ne-eqb}
-use Rattle.lawful.proofs.is_under.Statement.{statement}
-use Rattle.lawful.proofs.is_under.Tie as tie
+use Rattle.desk.proofs.is_under.Statement.{statement}
+use Rattle.desk.proofs.is_under.Tie as tie
 
 returns : tie.Need-returns
 returns c = rw (eq-eqb _ _ (c .if1 .taken))
