@@ -24,8 +24,11 @@ use Rattle.ground.specs.Bools.{no-way, both}
 abbrev pub sameKey : Key → Key → Bool
 sameKey j k = eqb (j .school) (k .school) && eqb (j .class) (k .class)
 
+self : (n : ℕ) → eqb n n ≡ true
+self n = eq-eqb n n refl
+
 pub key-self : (k : Key) → sameKey k k ≡ true
-key-self k = rw (eq-eqb (k .school) (k .school) refl, eq-eqb (k .class) (k .class) refl)
+key-self k = simp self
 
 pub key-only : (j k : Key) → sameKey j k ≡ true → j ≡ k
 key-only j k h =
