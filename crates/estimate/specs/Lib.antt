@@ -1,2 +1,3 @@
 pub mod Estimate
 pub mod Laws
+pub mod Source
