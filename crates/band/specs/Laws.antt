@@ -10,8 +10,7 @@ use Rattle.estimate.specs.Laws.{row-sized}
 use Rattle.interval.specs.Interval.{Decision, decision, whole}
 use Rattle.octets.specs.Octets.{Registers, run, start}
 use Rattle.octets.specs.Fit.{AllSized}
-use Rattle.exact.specs.Value.{value, places, exact}
-use Rattle.exact.specs.Ahead.{Lawful}
+use Rattle.exact.specs.Value.{LawfulBytes, value, places, exact}
 use Rattle.exact.specs.Code.{coded, value-written, length-law}
 use Rattle.exact.specs.Code as exactly
 use Rattle.template.specs.Pels.{bandTo}
@@ -53,8 +52,8 @@ module _ (width rows : ℕ) (table last band : List ℕ) where
   shifts-is = ap (λ (w : Registers). w .interval .count) (sym (run-is width (bandTo width band rows) opened))
 
   -- every byte is below 256, and a byte after FF is at most 8F
-  pub code-lawful : Lawful 0 (written width rows table last band .code)
-  code-lawful = subst (Lawful 0) code-is (coded decided sizes .lawful)
+  pub code-lawful : LawfulBytes 0 (written width rows table last band .code)
+  code-lawful = subst (LawfulBytes 0) code-is (coded decided sizes .lawful)
 
   -- the value of the code, where a byte after FF has seven places and any other eight, is the final lower end, exactly
   pub code-value : value (written width rows table last band .code) * 2 ^ (12 + written width rows table last band .shifts)

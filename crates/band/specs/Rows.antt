@@ -15,8 +15,8 @@ use Rattle.estimate.specs.declared.Table.{Table}
 use Rattle.estimate.specs.Estimate.{rowOf, next, LawfulEntry, LawfulTable}
 use Rattle.estimate.specs.Laws.{row-sized, next-lawful, set-lawful}
 use borrow.Author.Tests.{lt-ltb}
-use Rattle.interval.specs.Interval.{Decision, decision, partOf, turns}
-use Rattle.interval.specs.Growing.{turns-some}
+use Rattle.interval.specs.Interval.{Decision, decision, partOf, doublings}
+use Rattle.interval.specs.Growing.{doublings-some}
 use Rattle.octets.specs.declared.Coder.{Coder}
 use Rattle.octets.specs.Octets.{Registers, part, pel}
 use Rattle.octets.specs.Fit.{Ready, ready-pel}
@@ -45,14 +45,14 @@ shiftedBy c e b = ltb (part (decided e b) (lift c []) .interval .width) 0x1000
 pub record Pelled (c : Coder) (e : ℕ) (b : Bool) (v : Pel) : Type 0 where
   pub registers : pel (decided e b) (lift c []) ≡ lift (v .coder) (bytesOf v)
   pub entry : v .entry ≡ cond (shiftedBy c e b) (next b e) e
-  pub shifts : v .shifts ≡ turns 12 (partOf (decided e b) (c .interval) .width)
+  pub shifts : v .shifts ≡ doublings 12 (partOf (decided e b) (c .interval) .width)
   pub few : v .settled ≤ 2
 
 -- from what the octets say of a pel
 module _ (c : Coder) (e : ℕ) (b : Bool) (u : Put) (registers : pel (decided e b) (lift c []) ≡ lift (u .coder) (settledOf u)) (few : u .settled ≤ 2)
-    (shifts : u .shifts ≡ turns 12 (partOf (decided e b) (c .interval) .width)) where
+    (shifts : u .shifts ≡ doublings 12 (partOf (decided e b) (c .interval) .width)) where
   moved-by : shiftedBy c e b ≡ ltb 0 (u .shifts)
-  moved-by = sym (turns-some 11 (partOf (decided e b) (c .interval) .width)) ∙ ap (ltb 0) (sym shifts)
+  moved-by = sym (doublings-some 11 (partOf (decided e b) (c .interval) .width)) ∙ ap (ltb 0) (sym shifts)
 
   pub pelled-still : u .shifts ≡ 0 → Pelled c e b (record { coder = u .coder; entry = e; shifts = u .shifts; settled = u .settled; first = u .first; second = u .second })
   pelled-still z = record { registers = registers; entry = rw (moved-by, z); shifts = shifts; few = few }
@@ -74,7 +74,7 @@ pelled-lawful c e b v l k =
 -- where there was no shift the entry is as it was, and so is the table
 pub pelled-kept : (c : Coder) (t : List ℕ) (cx : ℕ) (b : Bool) (v : Pel) → Pelled c (getD t cx 0) b v → v .shifts ≡ 0 → set t cx (v .entry) ≡ t
 pelled-kept c t cx b v k z =
-    ap (set t cx) (k .entry ∙ ap (λ (s : Bool). cond s (next b (getD t cx 0)) (getD t cx 0)) (sym (turns-some 11 _) ∙ ap (ltb 0) (sym (k .shifts) ∙ z))) ∙ set-getD t cx 0
+    ap (set t cx) (k .entry ∙ ap (λ (s : Bool). cond s (next b (getD t cx 0)) (getD t cx 0)) (sym (doublings-some 11 _) ∙ ap (ltb 0) (sym (k .shifts) ∙ z))) ∙ set-getD t cx 0
 
 -- so a table that is changed only after a shift is the table with that entry
 pub pelled-table : {A B : Type 0} (c : Coder) (t t′ : Table) (cx : ℕ) (b : Bool) (v : Pel) → Pelled c (getD (t .entries) cx 0) b v → (B → v .shifts ≡ 0)

@@ -24,10 +24,6 @@ place-same d e (At i) p = rw p
 place-same d e Nothing p = refl
 
 -- two desks with the same places, both lawful or neither: a look shows the same
-same-look : (d e : Desk) (k : Key) (out : List ℕ) → lawful e ≡ lawful d → e .places ≡ d .places → lookLent e k out ≡ lookLent d k out
+pub same-look : (d e : Desk) (k : Key) (out : List ℕ) → lawful e ≡ lawful d → e .places ≡ d .places → lookLent e k out ≡ lookLent d k out
 unfolding lookLent lookTests
 same-look d e k out l p = rw (l, place-same d e (tableFound e k) p, p)
-
--- a look in the middle of a page shows the table as it was before the band
-pub look-old : (d : Desk) (k : Key) (w : Written) (out : List ℕ) → lawful (bandDesk d k w) ≡ lawful d → lookLent (bandDesk d k w) k out ≡ lookLent d k out
-look-old d k w out l = same-look d (bandDesk d k w) k out l (band-places d k w)

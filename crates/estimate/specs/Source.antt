@@ -29,10 +29,10 @@ pub ruled : ℕ → Row
 ruled i = row (8 * rowOf (entryOf i 0)) (rise i) (i - fall i) (flip i 0)
 
 -- n numbers from i on
-pub upTo : ℕ → ℕ → List ℕ
-upTo i zero = []
-upTo i (suc n) = i ∷ upTo (suc i) n
+pub numbersFrom : ℕ → ℕ → List ℕ
+numbersFrom i zero = []
+numbersFrom i (suc n) = i ∷ numbersFrom (suc i) n
 
-pub agrees : source ≡ map ruled (upTo 0 30)
-unfolding source ruled upTo rowOf rise fall flip
+pub agrees : source ≡ map ruled (numbersFrom 0 30)
+unfolding source ruled numbersFrom rowOf rise fall flip
 agrees = refl

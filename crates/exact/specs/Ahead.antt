@@ -3,33 +3,22 @@
 -- All by going back from the end, one small step at a time; fractions are compared multiplied out. Assumes nothing.
 use mathlib.Core.Path.{_≡_, refl, sym, ap, _∙_, subst}
 use Prim.Native.Nat.{ℕ, zero, suc, _+_, _-_, _*_, _^_, _≤_, _<_}
-use native.Mathlib.Nat.{mul-le-mul-right, pos-of-ne-zero, add-sub-cancel}
+use native.Mathlib.Nat.{mul-le-mul-right, pos-of-ne-zero}
 use native.Mathlib.Omega.{arith}
 use mathlib.Core.List.{List, [], _∷_, _++_, append-assoc}
 use lib.ListN.{take}
-use lib.Dec.{T, ltb, eqb, ltb→lt, eqb→eq}
+use lib.Dec.{eqb, eqb→eq}
 use lib.Pow.{pow-pos}
 use Rattle.ground.specs.Tests.{by-cond, neqb→ne}
 use Rattle.octets.specs.Unit.{unit, unit-pred, unit-zero, unit-pos}
 use Rattle.interval.specs.declared.Interval.{Interval}
-use Rattle.interval.specs.Interval.{Decision, whole}
-use Rattle.octets.specs.Octets.{Registers, bits, carried, byte, due, double, shifts, part, pel, run, pad, pads, lastByte, cover, finish, bytes}
-use Rattle.octets.specs.Fit.{upper, lower, by-part, Fit, Rest, Ready, Byte, made, byte-until, byte-few, byte-scale, Sized, AllSized, fit-double, rest-shift, rest-part, ready-pel}
+use Rattle.interval.specs.Interval.{whole}
+use Rattle.octets.specs.Octets.{Registers, bits, carried, byte, due, double, part, pad, pads, lastByte, cover, bytes}
+use Rattle.octets.specs.Fit.{upper, lower, Fit, Rest, Byte, made, byte-until, byte-few, byte-scale}
 use Rattle.octets.specs.Ending.{Filled, filled, fit-pad, rest-last}
-use Rattle.exact.specs.Value.{value, places, value-one, value-cons, places-cons, head-le}
-use Rattle.exact.specs.End.{Tail, tail-last, tail-start}
+use Rattle.exact.specs.Value.{LawfulBytes, need, value, places, value-one, value-cons, places-cons, head-le}
+use Rattle.exact.specs.End.{Tail, tail-last}
 use Rattle.exact.specs.Back.{half-floor, half-prefix, half-roof, half-roof-pad, upper-floor, upper-prefix, lower-roof, byte-floor, byte-prefix, byte-roof, stuffed}
-
--- every byte is one, and a byte after FF is at most 8F
-abbrev pub Lawful : ℕ → List ℕ → Type 0
-Lawful b [] = Unit {0}
-Lawful b (d ∷ ds) = (d ≤ 255) × (b ≡ 255 → d ≤ 143) × Lawful d ds
-
--- the fewest bits for which each of these bytes is needed: one more than all but the last bring
-unfoldable pub need : ℕ → List ℕ → ℕ
-need b [] = 0
-need b (d ∷ []) = 1
-need b (d ∷ e ∷ es) = bits b + need d (e ∷ es)
 
 -- From w on, the code `all` goes on with b, which is the held byte or one more, and then bs; they cover n bits and none is in vain.
 -- floor and roof: the value of b and bs lies in w's interval. prefix: a part of bs that is not empty falls short by less than its last unit.
@@ -41,7 +30,7 @@ pub record Ahead (w : Registers) (all : List ℕ) (n : ℕ) : Type 0 where
   pub most : b ≤ suc (w .held)
   pub top : b ≤ 255
   pub full : w .held ≡ 255 → b ≡ 255
-  pub lawful : Lawful b bs
+  pub lawful : LawfulBytes b bs
   pub covers : n ≤ places b bs
   pub wanted : need b bs ≤ n
   pub floor : (w .held * unit (w .until) + w .interval .low) * 2 ^ places b bs ≤ value (b ∷ bs) * unit (w .until)
@@ -86,13 +75,13 @@ ahead-pad w all n r i =
     (half-roof-pad (w .held) (unit (w .until)) (unit (w .until - 1)) (w .interval .low) (w .interval .width) _ _ (unit-before w r) (i .roof))
     (λ k. half-prefix (w .held) (unit (w .until)) (unit (w .until - 1)) (w .interval .low) _ _ (unit-before w r) (i .prefix k))
 
-ahead-upper : (q : ℕ) (w : Registers) (all : List ℕ) (n : ℕ) → q ≤ w .interval .width → Ahead (upper q w) all n → Ahead w all n
+pub ahead-upper : (q : ℕ) (w : Registers) (all : List ℕ) (n : ℕ) → q ≤ w .interval .width → Ahead (upper q w) all n → Ahead w all n
 ahead-upper q w all n h i =
     ahead-by w _ _ all n i (upper-floor q (w .held * unit (w .until)) (w .interval .low) _ _ (i .floor))
     (subst (λ (x : ℕ). value (i .b ∷ i .bs) * unit (w .until) < x * 2 ^ places (i .b) (i .bs)) (omega arith) (i .roof))
     (λ k. upper-prefix q (w .held * unit (w .until)) (w .interval .low) _ _ (i .prefix k))
 
-ahead-lower : (q : ℕ) (w : Registers) (all : List ℕ) (n : ℕ) → q ≤ w .interval .width → Ahead (lower q w) all n → Ahead w all n
+pub ahead-lower : (q : ℕ) (w : Registers) (all : List ℕ) (n : ℕ) → q ≤ w .interval .width → Ahead (lower q w) all n → Ahead w all n
 ahead-lower q w all n h i = ahead-by w _ _ all n i (i .floor) (lower-roof q (w .held * unit (w .until)) (w .interval .low) (w .interval .width) _ _ h (i .roof)) (i .prefix)
 
 -- ---- a byte back
@@ -215,66 +204,3 @@ ahead-cover (suc j) r w f k h =
     (λ t. ahead-stop w r f (eqb→eq r 0 t) (k .clear (eqb→eq r 0 t)))
     (λ t. ahead-last w _ r f (pos-of-ne-zero (neqb→ne r 0 t))
     (ahead-cover j (r - lastByte w .until) (lastByte w) (rest-last w f) (tail-last r w f k) (omega (arith, byte-few (pads (w .until) w)))))
-
--- ---- the run. n bits are to come: those in c, and the shifts that are left of S
-pub record Going (w : Registers) (all : List ℕ) (S : ℕ) : Type 0 where
-  pub n : ℕ
-  pub togo : n + w .interval .count ≡ 24 - w .until + S
-  pub soon : w .interval .count ≤ S
-  pub ahead : Ahead w all n
-
-byte-count : (w : Registers) → byte w .interval .count ≡ w .interval .count
-unfolding byte
-byte-count w = refl
-
-going-byte : (w : Registers) (all : List ℕ) (S : ℕ) → Fit w → w .until ≡ 0 → Going (byte w) all S → Going w all S
-going-byte w all S f z g =
-    let e : byte w .interval .count ≡ w .interval .count = byte-count w in
-    record {
-      n = g .n + byte w .until;
-      togo = omega (arith, g .togo, byte-few w);
-      soon = omega (arith, g .soon);
-      ahead = ahead-byte w all (g .n + byte w .until) f z (omega (arith, byte-few w))
-          (subst (λ (x : ℕ). Ahead (byte w) all x) (sym (add-sub-cancel (g .n) (byte w .until))) (g .ahead));
-    }
-
-pub going-due : (w : Registers) (all : List ℕ) (S : ℕ) → Fit w → Going (due w) all S → Going w all S
-unfolding due
-going-due w all S f =
-    by-cond (λ (v : Registers). Going v all S → Going w all S) (eqb (w .until) 0) (byte w) w (λ t. going-byte w all S f (eqb→eq (w .until) 0 t)) (λ t g. g)
-
-going-double : (w : Registers) (all : List ℕ) (S : ℕ) → Rest w → Going (double w) all S → Going w all S
-going-double w all S r g = record { n = g .n; togo = omega (arith, g .togo, r .wait, r .fit .few); soon = omega (arith, g .soon); ahead = ahead-double w all (g .n) r (g .ahead) }
-
-pub going-shift : (w : Registers) (all : List ℕ) (S : ℕ) → Rest w → T (ltb (w .interval .width) 4096) → Going (due (double w)) all S → Going w all S
-going-shift w all S r t g = going-double w all S r (going-due (double w) all S (fit-double w r (ltb→lt (w .interval .width) 4096 t)) g)
-
-pub going-shifts : (j : ℕ) (w : Registers) (all : List ℕ) (S : ℕ) → Rest w → Going (shifts j w) all S → Going w all S
-unfolding shifts
-going-shifts zero w all S r = λ g. g
-going-shifts (suc j) w all S r =
-    by-cond (λ (v : Registers). Going v all S → Going w all S) (ltb (w .interval .width) 4096) (shifts j (due (double w))) w
-    (λ t g. going-shift w all S r t (going-shifts j (due (double w)) all S (rest-shift w r t) g)) (λ t g. g)
-
-pub going-upper : (q : ℕ) (w : Registers) (all : List ℕ) (S : ℕ) → q ≤ w .interval .width → Going (upper q w) all S → Going w all S
-going-upper q w all S h g = record { n = g .n; togo = g .togo; soon = g .soon; ahead = ahead-upper q w all (g .n) h (g .ahead) }
-
-pub going-lower : (q : ℕ) (w : Registers) (all : List ℕ) (S : ℕ) → q ≤ w .interval .width → Going (lower q w) all S → Going w all S
-going-lower q w all S h g = record { n = g .n; togo = g .togo; soon = g .soon; ahead = ahead-lower q w all (g .n) h (g .ahead) }
-
-pub going-part : (d : Decision) (w : Registers) (all : List ℕ) (S : ℕ) → Ready w → Sized d → Going (part d w) all S → Going w all S
-going-part d w all S r z =
-    let h : d .q ≤ w .interval .width = omega (arith, z .small, r .wide) in
-    by-part (λ (v : Registers). Going v all S → Going w all S) d w
-    (λ t. going-upper (d .q) w all S h) (λ t. going-lower (d .q) w all S h)
-
-pub going-run : (ds : List Decision) (w : Registers) (all : List ℕ) (S : ℕ) → AllSized ds → Ready w → Going (run ds w) all S → Going w all S
-unfolding run
-going-run [] w all S z r g = g
-going-run (d ∷ ds) w all S z r g =
-    going-part d w all S r (z .0)
-    (going-shifts 12 (part d w) all S (rest-part d w r (z .0)) (going-run ds (pel d w) all S (z .1) (ready-pel d w r (z .0)) g))
-
-pub going-end : (w : Registers) → Rest w → Going w (bytes (finish w)) (w .interval .count)
-unfolding finish
-going-end w r = record { n = 24 - w .until; togo = refl; soon = omega arith; ahead = ahead-cover 4 (24 - w .until) w r (tail-start w r) (omega arith) }

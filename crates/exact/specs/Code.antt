@@ -12,10 +12,11 @@ use Rattle.octets.specs.Unit.{unit}
 use Rattle.interval.specs.Interval.{Decision, whole}
 use Rattle.octets.specs.Octets.{Registers, start, bits, run, finish, bytes, code}
 use Rattle.octets.specs.Fit.{Ready, AllSized, ready-run, ready-start, bits-ff, bits-else}
-use Rattle.exact.specs.Value.{value, places, exact, head-le}
+use Rattle.exact.specs.Value.{LawfulBytes, need, value, places, exact, head-le}
 use Rattle.exact.specs.Agree.{same-run, same-start}
 use Rattle.exact.specs.End.{value-run}
-use Rattle.exact.specs.Ahead.{Ahead, Going, going-run, going-end, Lawful, need}
+use Rattle.exact.specs.Ahead.{Ahead}
+use Rattle.exact.specs.Going.{Going, going-run, going-end}
 
 -- the code of a run of decisions, and its shifts
 unfoldable pub written : List Decision → List ℕ
@@ -52,7 +53,7 @@ code-bytes ds z =
 
 -- the code from the start, with the bytes of the code itself
 pub record Coded (ds : List Decision) (code : List ℕ) (S : ℕ) : Type 0 where
-  pub lawful : Lawful 0 code
+  pub lawful : LawfulBytes 0 code
   pub covers : 12 + S ≤ places 0 code
   pub wanted : need 0 code ≤ 12 + S
 
@@ -63,7 +64,7 @@ coded ds z =
     let b0 : i .b ≡ 0 = ahead-zero _ _ i in
     let e : i .bs ≡ written ds = ap (λ (l : List ℕ). drop 1 l) (sym (i .joined) ∙ code-bytes ds z) in
     record {
-      lawful = subst₂ (λ (b : ℕ) (l : List ℕ). Lawful b l) b0 e (i .lawful);
+      lawful = subst₂ (λ (b : ℕ) (l : List ℕ). LawfulBytes b l) b0 e (i .lawful);
       covers = subst₂ (λ (b : ℕ) (l : List ℕ). 12 + counted ds ≤ places b l) b0 e (omega (arith, i .covers, g .togo));
       wanted = subst₂ (λ (b : ℕ) (l : List ℕ). need b l ≤ 12 + counted ds) b0 e (omega (arith, i .wanted, g .togo));
     }
@@ -99,7 +100,7 @@ value-written ds z =
     open-zero l x low e = rw (zero-place l) at (rw (zero-value l) at e)
 
 -- ---- the length law
-length-need : (b d : ℕ) (ds : List ℕ) → Lawful b (d ∷ ds) → (b ≢ 255 → 8 * length ds + 1 ≤ need b (d ∷ ds) + length ds / 2) × (8 * length ds + 1 ≤ need b (d ∷ ds) + (length ds + 1) / 2)
+length-need : (b d : ℕ) (ds : List ℕ) → LawfulBytes b (d ∷ ds) → (b ≢ 255 → 8 * length ds + 1 ≤ need b (d ∷ ds) + length ds / 2) × (8 * length ds + 1 ≤ need b (d ∷ ds) + (length ds + 1) / 2)
 unfolding need
 length-need b d [] l = omega arith
 length-need b d (e ∷ es) l =

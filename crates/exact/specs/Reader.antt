@@ -1,9 +1,9 @@
--- The reader: what it sees of a code, beside the writer; on a written code it takes each decision as it was written. Assumes nothing.
+-- The reader beside the writer: on a written code it takes each decision as it was written. Assumes nothing.
 use mathlib.Core.Path.{_≡_, refl, sym, ap, _∙_, subst, subst₂}
 use Prim.Native.Nat.{ℕ, zero, suc, _+_, _-_, _*_, _%_, _^_, _≤_, _<_}
 use native.Mathlib.Nat.{lt-of-mul-lt-mul-right, add-zero, pow-succ', mul-le-mul, mod-eq-of-lt, pos-of-ne-zero}
 use native.Mathlib.Omega.{arith}
-use mathlib.Core.Bool.{Bool, true, false, cond, not}
+use mathlib.Core.Bool.{true, false, cond, not}
 use mathlib.Core.List.{List, [], _∷_, _++_, append-assoc}
 use lib.ListN.{drop, take, length, getD}
 use lib.Dec.{T, ltb, eqb, ltb→lt, eqb→eq, lt→ltb}
@@ -15,48 +15,9 @@ use Rattle.octets.specs.Unit.{unit, unit-pred, unit-zero, unit-pos}
 use Rattle.octets.specs.Octets.{Registers, start, bits, carried, byte, due, double, shifts}
 use Rattle.octets.specs.Fit.{upper, lower, Fit, Rest, Byte, made, bits-few, byte-until, fit-double, rest-shift}
 use Rattle.exact.specs.Value.{value, places, places-one, places-snoc, value-snoc, places-split, value-split}
-use Rattle.exact.specs.Ahead.{Ahead, ahead-double, Going, going-due, going-shifts, byte-width, byte-settled}
-
--- width: the width. x: the bits of the code that are read, less the lower end; look: how many of them lie past the lower end's last bit.
--- last: the byte last read. unread: the bytes to come.
-pub record Sight : Type 0 where
-  pub width : ℕ
-  pub x : ℕ
-  pub look : ℕ
-  pub last : ℕ
-  pub unread : List ℕ
-
--- two bytes: 16 bits, or 15 after FF, of which 12 are the lower end's
-abbrev pub opened : List ℕ → Sight
-opened code =
-    record { width = 0x1000; x = getD code 0 0 * 2 ^ bits (getD code 0 0) + getD code 1 0; look = bits (getD code 0 0) - 4; last = getD code 1 0; unread = drop 2 code }
-
--- one byte more (past the end a byte is 0). The remainder does nothing on a written code; on another it keeps x in a register
-abbrev pub more : Sight → Sight
-more r = record { width = r .width; x = (r .x * 2 ^ bits (r .last) + getD (r .unread) 0 0) % 2 ^ 32; look = r .look + bits (r .last); last = getD (r .unread) 0 0; unread = drop 1 (r .unread) }
-
-abbrev pub nearer : Sight → Sight
-nearer r = record { width = 2 * r .width; x = r .x; look = r .look - 1; last = r .last; unread = r .unread }
-
-unfoldable pub supplied : Sight → Sight
-supplied r = let v : Sight = more r in cond (eqb (r .look) 0) v r
-
-unfoldable pub seek : ℕ → Sight → Sight
-seek zero r = r
-seek (suc n) r = let v : Sight = seek n (nearer (supplied r)) in cond (ltb (r .width) 0x1000) v r
-
--- the pel is the unexpected one if x lies in the lower part
-unfoldable pub decide : ℕ → Sight → Bool
-decide q r = not (ltb (r .x) (q * 2 ^ r .look))
-
-abbrev pub above : ℕ → Sight → Sight
-above q r = record { width = r .width - q; x = r .x - q * 2 ^ r .look; look = r .look; last = r .last; unread = r .unread }
-
-abbrev pub under : ℕ → Sight → Sight
-under q r = record { width = q; x = r .x; look = r .look; last = r .last; unread = r .unread }
-
-abbrev pub taken : ℕ → Bool → Sight → Sight
-taken q e r = cond e (above q r) (under q r)
+use Rattle.exact.specs.Ahead.{Ahead, ahead-double, byte-width, byte-settled}
+use Rattle.exact.specs.Going.{Going, going-due, going-shifts}
+use Rattle.exact.specs.Sight.{Sight, opened, more, nearer, supplied, seek, decide, above, under}
 
 -- ---- what the reader has read: of the bytes from w's on, b and then ys and the last; x is their value less the lower end
 pub record Sees (r : Sight) (w : Registers) (all : List ℕ) : Type 0 where

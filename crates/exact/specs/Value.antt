@@ -23,6 +23,17 @@ unfoldable pub exact : List Decision → Interval → Interval
 exact [] e = e
 exact (d ∷ ds) e = exact ds (coded d e)
 
+-- each is a byte, and after an FF it is at most 8F; b is the byte before them
+abbrev pub LawfulBytes : ℕ → List ℕ → Type 0
+LawfulBytes b [] = Unit {0}
+LawfulBytes b (d ∷ ds) = (d ≤ 255) × (b ≡ 255 → d ≤ 143) × LawfulBytes d ds
+
+-- the fewest bits for which each of these bytes is needed: one more than all but the last bring
+unfoldable pub need : ℕ → List ℕ → ℕ
+need b [] = 0
+need b (d ∷ []) = 1
+need b (d ∷ e ∷ es) = bits b + need d (e ∷ es)
+
 -- ---- bytes in front
 pub places-one : (b d : ℕ) → places b (d ∷ []) ≡ bits b
 unfolding places

@@ -9,7 +9,7 @@ use borrow.Author.Tests.{lt-ltb}
 use lib.Pow.{pow-mono}
 use Rattle.ground.specs.Tests.{if-lt, if-ge, by-cond₂, by-cond}
 use Rattle.interval.specs.declared.Interval.{Interval}
-use Rattle.interval.specs.Interval.{decision, partOf, doubled, grown, turns}
+use Rattle.interval.specs.Interval.{decision, partOf, doubled, grown, doublings}
 
 -- k doublings at once
 abbrev pub jumped : ℕ → Interval → Interval
@@ -28,33 +28,33 @@ jumped-more k i = λ j. record { low = num (i .low) j; width = num (i .width) j;
     up s = omega arith
 
 -- the loop is that many doublings
-pub grown-jumped : (n : ℕ) (i : Interval) → grown n i ≡ jumped (turns n (i .width)) i
-unfolding grown turns
+pub grown-jumped : (n : ℕ) (i : Interval) → grown n i ≡ jumped (doublings n (i .width)) i
+unfolding grown doublings
 grown-jumped zero i = jumped-none i
 grown-jumped (suc n) i =
-    by-cond₂ (λ (v : Interval) (k : ℕ). v ≡ jumped k i) (ltb (i .width) 4096) (grown n (doubled i)) i (suc (turns n (2 * i .width))) 0
-    (λ t. grown-jumped n (doubled i) ∙ jumped-more (turns n (2 * i .width)) i) (λ t. jumped-none i)
+    by-cond₂ (λ (v : Interval) (k : ℕ). v ≡ jumped k i) (ltb (i .width) 4096) (grown n (doubled i)) i (suc (doublings n (2 * i .width))) 0
+    (λ t. grown-jumped n (doubled i) ∙ jumped-more (doublings n (2 * i .width)) i) (λ t. jumped-none i)
 
 -- there is a doubling exactly where the width is below 1000 hex
-pub turns-some : (n a : ℕ) → ltb 0 (turns (suc n) a) ≡ ltb a 4096
-unfolding turns
-turns-some n a = by-cond₂ (λ (k : ℕ) (b : Bool). ltb 0 k ≡ b) (ltb a 4096) (suc (turns n (2 * a))) 0 true false (λ t. lt-ltb 0 (suc (turns n (2 * a))) (omega arith)) (λ t. refl) ∙ whole-cond (ltb a 4096)
+pub doublings-some : (n a : ℕ) → ltb 0 (doublings (suc n) a) ≡ ltb a 4096
+unfolding doublings
+doublings-some n a = by-cond₂ (λ (k : ℕ) (b : Bool). ltb 0 k ≡ b) (ltb a 4096) (suc (doublings n (2 * a))) 0 true false (λ t. lt-ltb 0 (suc (doublings n (2 * a))) (omega arith)) (λ t. refl) ∙ whole-cond (ltb a 4096)
   where
     whole-cond : (b : Bool) → cond b true false ≡ b
     whole-cond true = refl
     whole-cond false = refl
 
-pub turns-few : (n a : ℕ) → turns n a ≤ n
-unfolding turns
-turns-few zero a = omega arith
-turns-few (suc n) a = by-cond (λ (k : ℕ). k ≤ suc n) (ltb a 4096) (suc (turns n (2 * a))) 0 (λ t. omega (arith, turns-few n (2 * a))) (λ t. omega arith)
+pub doublings-few : (n a : ℕ) → doublings n a ≤ n
+unfolding doublings
+doublings-few zero a = omega arith
+doublings-few (suc n) a = by-cond (λ (k : ℕ). k ≤ suc n) (ltb a 4096) (suc (doublings n (2 * a))) 0 (λ t. omega (arith, doublings-few n (2 * a))) (λ t. omega arith)
 
 -- ---- the loop: of the interval i, doubled to v by s doublings, k are left
 pub record Left (i v : Interval) (s : ℕ) : Type 0 where
   pub k : ℕ
   pub all : k + s ≡ 12
   pub same : grown k v ≡ grown 12 i
-  pub rest : turns 12 (i .width) ≡ s + turns k (v .width)
+  pub rest : doublings 12 (i .width) ≡ s + doublings k (v .width)
   pub wide : 4096 ≤ v .width * 2 ^ k
   pub some : 1 ≤ v .width
   pub small : v .width < 8192
@@ -68,16 +68,16 @@ left-start i p h l =
 more : (n l : ℕ) → l < 2 ^ (26 + n) → 2 * l < 2 ^ (26 + suc n)
 more n l h = rw (add-suc 26 n, pow-succ' 2 (26 + n)) (omega arith)
 
-again-at : (i v : Interval) (s k : ℕ) → k + s ≡ 12 → grown k v ≡ grown 12 i → turns 12 (i .width) ≡ s + turns k (v .width) → 4096 ≤ v .width * 2 ^ k
+again-at : (i v : Interval) (s k : ℕ) → k + s ≡ 12 → grown k v ≡ grown 12 i → doublings 12 (i .width) ≡ s + doublings k (v .width) → 4096 ≤ v .width * 2 ^ k
     → 1 ≤ v .width → v .low < 2 ^ (26 + s) → v .count ≡ i .count + s → v .width < 4096 → Left i (doubled v) (suc s)
-unfolding grown turns
+unfolding grown doublings
 again-at i v s zero a e r w p l c h = absurd (omega arith)
 again-at i v s (suc k) a e r w p l c h =
     record {
       k = k;
       all = omega arith;
       same = sym (if-lt (v .width) 4096 (grown k (doubled v)) v h) ∙ e;
-      rest = r ∙ ap (λ (n : ℕ). s + n) (if-lt (v .width) 4096 (suc (turns k (2 * v .width))) 0 h) ∙ omega arith;
+      rest = r ∙ ap (λ (n : ℕ). s + n) (if-lt (v .width) 4096 (suc (doublings k (2 * v .width))) 0 h) ∙ omega arith;
       wide = let g : v .width * 2 ^ suc k ≡ v .width * (2 * 2 ^ k) = ap (λ (y : ℕ). v .width * y) (pow-succ' 2 k) in omega arith;
       some = omega arith;
       small = omega arith;
@@ -88,14 +88,14 @@ again-at i v s (suc k) a e r w p l c h =
 pub left-again : (i v : Interval) (s : ℕ) → Left i v s → v .width < 4096 → Left i (doubled v) (suc s)
 left-again i v s x h = again-at i v s (x .k) (x .all) (x .same) (x .rest) (x .wide) (x .some) (x .low) (x .count) h
 
-none-left : (k : ℕ) (v : Interval) → 4096 ≤ v .width → (grown k v ≡ v) × (turns k (v .width) ≡ 0)
-unfolding grown turns
+none-left : (k : ℕ) (v : Interval) → 4096 ≤ v .width → (grown k v ≡ v) × (doublings k (v .width) ≡ 0)
+unfolding grown doublings
 none-left zero v h = (refl, refl)
-none-left (suc k) v h = (if-ge (v .width) 4096 (grown k (doubled v)) v h, if-ge (v .width) 4096 (suc (turns k (2 * v .width))) 0 h)
+none-left (suc k) v h = (if-ge (v .width) 4096 (grown k (doubled v)) v h, if-ge (v .width) 4096 (suc (doublings k (2 * v .width))) 0 h)
 
-pub left-end : (i v : Interval) (s : ℕ) → Left i v s → 4096 ≤ v .width → (v ≡ grown 12 i) × (s ≡ turns 12 (i .width))
+pub left-end : (i v : Interval) (s : ℕ) → Left i v s → 4096 ≤ v .width → (v ≡ grown 12 i) × (s ≡ doublings 12 (i .width))
 left-end i v s x h =
-    let e : (grown (x .k) v ≡ v) × (turns (x .k) (v .width) ≡ 0) = none-left (x .k) v h in
+    let e : (grown (x .k) v ≡ v) × (doublings (x .k) (v .width) ≡ 0) = none-left (x .k) v h in
     (sym (e .0) ∙ x .same, omega (arith, x .rest, e .1))
 
 pub left-low : (i v : Interval) (s : ℕ) → Left i v s → v .low < 2 ^ 38

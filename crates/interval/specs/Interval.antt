@@ -37,9 +37,9 @@ grown zero i = i
 grown (suc n) i = let r : Interval = grown n (doubled i) in cond (ltb (i .width) 0x1000) r i
 
 -- how many doublings that is
-unfoldable pub turns : ℕ → ℕ → ℕ
-turns zero a = 0
-turns (suc n) a = let k : ℕ = suc (turns n (2 * a)) in cond (ltb a 0x1000) k 0
+unfoldable pub doublings : ℕ → ℕ → ℕ
+doublings zero a = 0
+doublings (suc n) a = let k : ℕ = suc (doublings n (2 * a)) in cond (ltb a 0x1000) k 0
 
 -- One pel.
 abbrev pub coded : Decision → Interval → Interval

@@ -1,7 +1,7 @@
 // The interval by value: one pel coded, the doublings counted.
 ghost use mathlib.Core.Path.{_≡_};
 ghost use Prim.Native.Nat.{_≤_, _<_, _^_};
-ghost use Rattle.interval.specs.Interval.{whole, decision, partOf, grown, turns, coded};
+ghost use Rattle.interval.specs.Interval.{whole, decision, partOf, grown, doublings, coded};
 
 // The lower end (what of it is in no byte yet), the width, and the shifts so far.
 pub struct Interval {
@@ -49,7 +49,7 @@ impl Interval {
     // Both doubled while the width is below 1000 hex.
     pub fn grow(self) -> Coded
         requires { ⌜ (1 ≤ self .width) × (self .width < 8192) × (self .low < 2 ^ 26) × (self .count < 2 ^ 32) ⌝ }
-        ensures { λ r. ⌜ (r .interval ≡ grown 12 self) × (r .shifts ≡ turns 12 (self .width)) ⌝ }
+        ensures { λ r. ⌜ (r .interval ≡ grown 12 self) × (r .shifts ≡ doublings 12 (self .width)) ⌝ }
     {
         let mut v = self;
         let mut shifts: u64 = 0;
@@ -70,7 +70,7 @@ impl Interval {
     // One pel.
     pub fn code(self, q: u64, expected: bool) -> Coded
         requires { ⌜ (0x1000 ≤ self .width) × (self .width < 8192) × (1 ≤ q) × (q ≤ 0xAC1) × (self .low < 2 ^ 25) × (self .count < 2 ^ 32) ⌝ }
-        ensures { λ r. ⌜ (r .interval ≡ coded (decision q expected) self) × (r .shifts ≡ turns 12 (partOf (decision q expected) self .width)) ⌝ }
+        ensures { λ r. ⌜ (r .interval ≡ coded (decision q expected) self) × (r .shifts ≡ doublings 12 (partOf (decision q expected) self .width)) ⌝ }
     {
         let part = self.part(q, expected);
         part.grow()

@@ -19,8 +19,9 @@ use Rattle.desk.specs.declared.Outcome.{Outcome}
 use Rattle.desk.specs.Places.{zeroTable, unusedPage, freePlace, emptyDesk, noPage, pageFound, tableFound, isFound, pageAt, placeAt, withPlace}
 use Rattle.desk.specs.Lawful.{all, any, apart, lawfulPage, lawfulPlace, lawful}
 use Rattle.desk.specs.Refusals.{refusal}
-use Rattle.desk.specs.Calls.{refused, done, unless, openTests, openDesk, openSpec, leaveTests, closeDesk, closeSpec, abandonDesk, abandonSpec, dropTests, dropSpec, lookTests, lookSpec, bandOf, writeTests, bandDesk, writeSpec, readTests, readSpec, readLent, ReadOutcome}
+use Rattle.desk.specs.Calls.{lookLent, refused, done, unless, openTests, openDesk, openSpec, leaveTests, closeDesk, closeSpec, abandonDesk, abandonSpec, dropTests, dropSpec, lookTests, lookSpec, bandOf, writeTests, bandDesk, writeSpec, readTests, readSpec, readLent, ReadOutcome}
 use Rattle.turns.specs.Base.{orElse}
+use Rattle.desk.specs.Looking.{band-places, same-look}
 use Rattle.kept.specs.View.{sameKey}
 use Rattle.kept.specs.Sound.{Sound, sound-lawful}
 use Rattle.kept.specs.Stored.{Stored, stored-sound, stored-others}
@@ -169,6 +170,26 @@ pub read-refused : (found : Option (List ℕ)) (d : Desk) (ask : Ask) (code out 
 unfolding readSpec
 read-refused (some band) d ask code out = refused-by (refusal (readTests d ask code out)) d (done _ _ _) (λ r. absurd (r refl))
 read-refused none d ask code out = refused-by (refusal (readTests d ask code out)) d (refused 10 d) (λ r. refl)
+
+-- ---- while a page is open a look shows the old table still: a band changes no place
+pub write-looks : (d : Desk) (ask : Ask) (pels out : List ℕ) (k : Key) (buffer : List ℕ) → lawful d ≡ true → lookLent (writeSpec d ask pels out .desk) k buffer ≡ lookLent d k buffer
+unfolding writeSpec
+write-looks d ask pels out k buffer h =
+    same-look d (writeSpec d ask pels out .desk) k buffer (write-lawful d ask pels out h ∙ sym h)
+    (by-number (λ e. e .places ≡ d .places) (refusal (writeTests d ask pels out)) d (done _ _ (bandDesk d (ask .key) (bandOf (pageAt d (pageFound d (ask .key))) (ask .rows) pels))) refl
+    (λ r. band-places d (ask .key) (bandOf (pageAt d (pageFound d (ask .key))) (ask .rows) pels)))
+
+pub read-looks : (found : Option (List ℕ)) (d : Desk) (ask : Ask) (code out : List ℕ) (k : Key) (buffer : List ℕ) → FoundRight d ask code out found → lawful d ≡ true
+    → lookLent (readSpec found d ask code out .desk) k buffer ≡ lookLent d k buffer
+unfolding readSpec
+read-looks found d ask code out k buffer f h =
+    same-look d (readSpec found d ask code out .desk) k buffer (read-lawful found d ask code out f h ∙ sym h) (places found)
+  where
+    places : (found : Option (List ℕ)) → readSpec found d ask code out .desk .places ≡ d .places
+    places (some band) =
+        by-number (λ e. e .places ≡ d .places) (refusal (readTests d ask code out)) d (done _ _ (bandDesk d (ask .key) (bandOf (pageAt d (pageFound d (ask .key))) (ask .rows) band))) refl
+        (λ r. band-places d (ask .key) (bandOf (pageAt d (pageFound d (ask .key))) (ask .rows) band))
+    places none = by-number (λ e. e .places ≡ d .places) (refusal (readTests d ask code out)) d (refused 10 d) refl (λ r. refl)
 
 -- ---- a read has one outcome, where two bands of one size are never written as the same code from one table and last row
 module _ (d : Desk) (ask : Ask) (code out : List ℕ)

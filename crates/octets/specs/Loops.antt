@@ -7,7 +7,7 @@ use native.Mathlib.Omega.{arith}
 use mathlib.Core.List.{List, [], _∷_, _++_, append-assoc}
 use lib.Dec.{ltb, eqb}
 use Rattle.ground.specs.Tests.{by-cond, by-cond₂, if-eq, if-ne}
-use Rattle.interval.specs.Interval.{Decision, turns}
+use Rattle.interval.specs.Interval.{Decision, doublings}
 use Rattle.interval.specs.Growing.{jumped, jumped-none, jumped-more}
 use Rattle.octets.specs.Octets.{Registers, carried, byte, due, double, shifts, part, pel, pad, pads, lastByte, cover, finish}
 use Rattle.octets.specs.Fit.{due-width, due-count, by-part}
@@ -62,12 +62,12 @@ steps zero w = w
 steps (suc k) w = steps k (due (double w))
 
 -- the loop is that many steps
-pub shifts-steps : (n : ℕ) (w : Registers) → shifts n w ≡ steps (turns n (w .interval .width)) w
-unfolding shifts turns steps
+pub shifts-steps : (n : ℕ) (w : Registers) → shifts n w ≡ steps (doublings n (w .interval .width)) w
+unfolding shifts doublings steps
 shifts-steps zero w = refl
 shifts-steps (suc n) w =
-    by-cond₂ (λ (v : Registers) (k : ℕ). v ≡ steps k w) (ltb (w .interval .width) 4096) (shifts n (due (double w))) w (suc (turns n (2 * w .interval .width))) 0
-    (λ t. shifts-steps n (due (double w)) ∙ ap (λ (a : ℕ). steps (turns n a) (due (double w))) (due-width (double w))) (λ t. refl)
+    by-cond₂ (λ (v : Registers) (k : ℕ). v ≡ steps k w) (ltb (w .interval .width) 4096) (shifts n (due (double w))) w (suc (doublings n (2 * w .interval .width))) 0
+    (λ t. shifts-steps n (due (double w)) ∙ ap (λ (a : ℕ). steps (doublings n a) (due (double w))) (due-width (double w))) (λ t. refl)
 
 -- k at once
 abbrev pub jump : ℕ → Registers → Registers

@@ -7,8 +7,8 @@ use mathlib.Core.Bool.{Bool}
 use mathlib.Core.List.{List, []}
 use lib.Pow.{pow-add, pow-pos, pow-mono}
 use Rattle.interval.specs.declared.Interval.{Interval}
-use Rattle.interval.specs.Interval.{decision, partOf, turns, coded}
-use Rattle.interval.specs.Growing.{jumped, grown-jumped, turns-few}
+use Rattle.interval.specs.Interval.{decision, partOf, doublings, coded}
+use Rattle.interval.specs.Growing.{jumped, grown-jumped, doublings-few}
 use Rattle.octets.specs.declared.Coder.{Coder}
 use Rattle.octets.specs.Octets.{Registers, byte, part, pel}
 use Rattle.octets.specs.Unit.{unit, unit-scale}
@@ -34,7 +34,7 @@ module _ (r : Coder) (q : ℕ) (e : Bool) (ready : Ready (lift r [])) (some : 1 
   P = partOf (decision q e) (r .interval)
 
   abbrev k : ℕ
-  k = turns 12 (P .width)
+  k = doublings 12 (P .width)
 
   parted : Rest (part (decision q e) (lift r []))
   parted = rest-part (decision q e) (lift r []) ready (record { some = some; small = small })
@@ -88,4 +88,4 @@ module _ (r : Coder) (q : ℕ) (e : Bool) (ready : Ready (lift r [])) (some : 1 
       }
 
   pub left-over : r .until ≤ k → k - r .until ≤ 11
-  left-over h = omega (arith, turns-few 12 (P .width), parted .wait)
+  left-over h = omega (arith, doublings-few 12 (P .width), parted .wait)

@@ -14,7 +14,7 @@ use Rattle.coder.specs.Reading.{readPels}
 use Rattle.octets.specs.Octets.{finish, bytes, code}
 use Rattle.octets.specs.Lift.{lift}
 use Rattle.estimate.specs.declared.Table.{Table}
-use Rattle.exact.specs.Reader.{opened}
+use Rattle.exact.specs.Sight.{opened}
 use Rattle.store.specs.Store.{inFront, cleared}
 use Rattle.template.specs.Pels.{rowBytes, bandTo}
 use Rattle.band.specs.Band.{qWriter, qPage, pageAt, written, lastRow}

@@ -13,9 +13,11 @@ use Rattle.octets.specs.Octets.{Registers, start, part, pel, run, finish, bytes
 use Rattle.octets.specs.Fit.{upper, lower, Ready, AllSized, ready-run, ready-start, rest-part}
 use Rattle.octets.specs.Fit.{Sized as Coded}
 use Rattle.exact.specs.Value.{places}
-use Rattle.exact.specs.Ahead.{Ahead, Going, going-part, going-end, going-shifts}
+use Rattle.exact.specs.Ahead.{Ahead}
+use Rattle.exact.specs.Going.{Going, going-part, going-end, going-shifts}
 use Rattle.exact.specs.Code.{written, code-bytes}
-use Rattle.exact.specs.Reader.{Sight, opened, seek, decide, above, under, taken, Sees, sees-upper, sees-lower, sees-shifts, sees-start, expects, refuses, decide-true, decide-false}
+use Rattle.exact.specs.Sight.{Sight, opened, seek, decide, above, under, taken}
+use Rattle.exact.specs.Reader.{Sees, sees-upper, sees-lower, sees-shifts, sees-start, expects, refuses, decide-true, decide-false}
 use Rattle.band.specs.Band.{qWriter}
 
 -- the reader: its decision, and the shifts after it

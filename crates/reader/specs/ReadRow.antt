@@ -17,7 +17,7 @@ use Rattle.estimate.specs.Laws.{set-lawful}
 use Rattle.octets.specs.declared.Coder.{Coder}
 use Rattle.octets.specs.Fit.{Ready}
 use Rattle.octets.specs.Lift.{lift}
-use Rattle.exact.specs.Reader.{Sight, seek, taken}
+use Rattle.exact.specs.Sight.{Sight, seek, taken}
 use Rattle.template.specs.Pels.{pelsTo, context}
 use Rattle.template.specs.declared.Window.{Window}
 use Rattle.template.specs.Window.{Slid, slid-next, slid-small, length-pels, pels-bits}

@@ -15,7 +15,7 @@ use Rattle.octets.specs.Octets.{Registers, start}
 use Rattle.octets.specs.Fit.{Ready, ready-start}
 use Rattle.octets.specs.Loops.{behind}
 use Rattle.octets.specs.Lift.{lift}
-use Rattle.exact.specs.Reader.{Sight, opened}
+use Rattle.exact.specs.Sight.{Sight, opened}
 use Rattle.template.specs.Pels.{rowBytes, pelsTo, rowAt, bandTo, bandPadded}
 use Rattle.band.specs.Band.{IsBand, qWriter, qPage, pageAt}
 use Rattle.band.specs.Rows.{stageOf, through, lift-behind}

@@ -13,7 +13,7 @@ use Rattle.coder.specs.Writing.{AllPels, bandCode}
 use Rattle.coder.specs.Reading.{readPels, written-read, no-two-bands}
 use Rattle.coder.specs.Page.{Page, size, sense, entryAt}
 use Rattle.estimate.specs.Laws.{Sized, row-sized}
-use Rattle.exact.specs.Reader.{opened}
+use Rattle.exact.specs.Sight.{opened}
 use Rattle.template.specs.Pels.{pelsTo, pelAt, rowAt, bandTo}
 use Rattle.template.specs.Window.{pel-bit, length-pels}
 use Rattle.band.specs.Band.{qScheme, qWriter, qPage, pageAt, written}

@@ -12,10 +12,10 @@ use lib.Pow.{pow-mono}
 use lib.Dec.{ltb, eqb}
 use Rattle.ground.specs.Tests.{by-cond₂, if-eq, if-ne}
 use Rattle.interval.specs.declared.Interval.{Interval}
-use Rattle.interval.specs.Interval.{decision, partOf, doubled, grown, turns}
+use Rattle.interval.specs.Interval.{decision, partOf, doubled, grown, doublings}
 use Rattle.octets.specs.Octets.{Registers, bits, shifts, due, double, part, pel}
 use Rattle.octets.specs.Fit.{bits-few, due-width}
-use Rattle.exact.specs.Reader.{Sight, opened, more, nearer, supplied, seek, decide, taken}
+use Rattle.exact.specs.Sight.{Sight, opened, more, nearer, supplied, seek, decide, taken}
 use Rattle.estimate.specs.Estimate.{rowOf}
 use Rattle.estimate.specs.Laws.{row-sized}
 use Rattle.octets.specs.declared.Coder.{Coder}
@@ -38,12 +38,12 @@ supplied-width : (r : Sight) → supplied r .width ≡ r .width
 unfolding supplied
 supplied-width r = Rattle.ground.specs.Tests.by-cond (λ (v : Sight). v .width ≡ r .width) (eqb (r .look) 0) (more r) r (λ t. refl) (λ t. refl)
 
-pub seek-seeks : (n : ℕ) (r : Sight) → seek n r ≡ seeks (turns n (r .width)) r
-unfolding seek turns seeks
+pub seek-seeks : (n : ℕ) (r : Sight) → seek n r ≡ seeks (doublings n (r .width)) r
+unfolding seek doublings seeks
 seek-seeks zero r = refl
 seek-seeks (suc n) r =
-    by-cond₂ (λ (v : Sight) (k : ℕ). v ≡ seeks k r) (ltb (r .width) 4096) (seek n (nearer (supplied r))) r (suc (turns n (2 * r .width))) 0
-    (λ t. seek-seeks n (nearer (supplied r)) ∙ ap (λ (a : ℕ). seeks (turns n (2 * a)) (nearer (supplied r))) (supplied-width r)) (λ t. refl)
+    by-cond₂ (λ (v : Sight) (k : ℕ). v ≡ seeks k r) (ltb (r .width) 4096) (seek n (nearer (supplied r))) r (suc (doublings n (2 * r .width))) 0
+    (λ t. seek-seeks n (nearer (supplied r)) ∙ ap (λ (a : ℕ). seeks (doublings n (2 * a)) (nearer (supplied r))) (supplied-width r)) (λ t. refl)
 
 supplied-some : (r : Sight) → r .look ≢ 0 → supplied r ≡ r
 unfolding supplied
@@ -163,7 +163,7 @@ module _ (c : Coder) (v : View) (code : List ℕ) (e : ℕ) (b : Bool) (u : Pel)
       → ((w : ℕ) → sightOf v₂ (w * 2 ^ k) code ≡ seeks k (sightOf v₁ w code)) → v₂ .at ≤ length code → v₂ .look ≤ 7 → v₂ .x < 2 ^ 32
       → ReadPel c v code e (record { expected = b; view = v₂; pel = u })
   told d p t n a x y z =
-      let m : turns 12 (part′ .width) ≡ k = ap (turns 12) (taken-width (rowOf e) b seen (c .interval) refl) ∙ sym (p .shifts) ∙ sym n in
+      let m : doublings 12 (part′ .width) ≡ k = ap (doublings 12) (taken-width (rowOf e) b seen (c .interval) refl) ∙ sym (p .shifts) ∙ sym n in
       let s : seek 12 part′ ≡ sightOf v₂ (part′ .width * 2 ^ k) code
       = seek-seeks 12 part′ ∙ ap (λ (j : ℕ). seeks j part′) m ∙ ap (seeks k) t ∙ sym (a (part′ .width)) in
       let w : part′ .width * 2 ^ k ≡ u .coder .interval .width

@@ -14,6 +14,4 @@ pub mod Slots
 pub mod Rows
 pub mod Shelves
 pub mod SlotDesk
-pub mod Rules
 pub mod Accepted
-pub mod Cases

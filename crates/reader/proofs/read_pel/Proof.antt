@@ -4,7 +4,7 @@ use Prim.Native.Nat.{_-_, _*_}
 use native.Mathlib.Omega.{arith}
 use mathlib.Core.Bool.{true, false}
 use borrow.Author.Needs.{needs}
-use Rattle.interval.specs.Growing.{turns-few}
+use Rattle.interval.specs.Growing.{doublings-few}
 use Rattle.exact.specs.Reader.{decide-true, decide-false}
 use Rattle.reader.specs.Views.{sightOf, told, part-small, part-is}
 use Rattle.reader.proofs.read_pel.Statement.{statement}
@@ -38,7 +38,7 @@ advance-requires c κs = (
   c .before .before .before .before .before .before .before .pre .4,
   omega
       (arith, c .before .before .before .before .before .before .before .pre .5),
-  rw (c .before .put-pel .ensures .shifts) (turns-few 12 _),
+  rw (c .before .put-pel .ensures .shifts) (doublings-few 12 _),
 )
 
 -- src/lib.rt:111:9
@@ -73,7 +73,7 @@ advance-requires-2 c κs = (
     arith,
     c .before .before .before .before .before .before .pre .5,
   ),
-  rw (c .put-pel2 .ensures .shifts) (turns-few 12 _),
+  rw (c .put-pel2 .ensures .shifts) (doublings-few 12 _),
 )
 
 -- src/lib.rt:102:1

@@ -4,7 +4,7 @@ use Prim.Native.Nat.{ℕ, _+_, _-_, _^_, _≤_, _<_}
 use native.Mathlib.Omega.{arith}
 use lib.ListN.{length}
 use Rattle.octets.specs.Octets.{bits}
-use Rattle.exact.specs.Reader.{Sight}
+use Rattle.exact.specs.Sight.{Sight}
 use Rattle.reader.specs.Views.{sightOf, seeks, seeks-few, seeks-more}
 use Rattle.octets.specs.Fit.{bits-few}
 use Rattle.reader.proofs.View.advance.Statement.{statement}
