@@ -176,6 +176,7 @@ struct siftpebble_answer siftpebble_drop(struct siftpebble_desk *desk,
  * Shows the class's learned table: 128 bytes in the front of the lent output,
  * whose other bytes are kept. Each byte is one context's 2 x index + sense.
  * While a page of the class is open this is still the old table.
+ * Nothing in the desk changes, but it is lent as for every call.
  * Refusals: 12, 1, 11, 9.
  */
 struct siftpebble_answer siftpebble_look(struct siftpebble_desk *desk,

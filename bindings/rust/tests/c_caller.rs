@@ -38,3 +38,21 @@ fn from_c() {
 fn from_cpp() {
     assert_eq!(run_example("CXX", "c++", "c++", "-std=c++17"), EXPECTED);
 }
+
+/// The header's names and numbers are the crate's.
+#[test]
+fn the_header_has_the_numbers() {
+    let header = include_str!("../../../include/siftpebble.h");
+    for refusal in siftpebble::Refusal::ALL {
+        let mut name = String::new();
+        for letter in format!("{refusal:?}").chars() {
+            if letter.is_uppercase() {
+                name.push('_');
+            }
+            name.push(letter.to_ascii_uppercase());
+        }
+        let wanted = format!("SIFTPEBBLE{name} = {}", refusal.number());
+        let there = |line: &str| line.trim().trim_end_matches(',') == wanted;
+        assert!(header.lines().any(there), "{wanted}");
+    }
+}

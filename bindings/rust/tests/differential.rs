@@ -297,9 +297,10 @@ fn main() {
     let seed = setting("SIFTPEBBLE_SEED", 1) << 32;
     let times = setting("SIFTPEBBLE_TIMES", 1);
     let mut report = Report::default();
-    for (name, part) in PARTS {
+    for (number, (name, part)) in PARTS.into_iter().enumerate() {
         let start = Instant::now();
-        part(seed, times, &mut report);
+        // each part its own desks
+        part(seed + ((number as u64) << 24), times, &mut report);
         println!("{name}: {:.1} s", start.elapsed().as_secs_f64());
     }
     for (name, count) in report.lines() {

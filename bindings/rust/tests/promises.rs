@@ -38,7 +38,7 @@ fn short_names(text: &str) -> Short {
 
 /// Whether a line of a source declares the name: `fn name`, `record Name`, or
 /// `name :` behind words such as `pub`.
-fn declares(line: &str, name: &str) -> bool {
+fn declares(line: &str, name: &str, rattle: bool) -> bool {
     const BEFORE: [&str; 12] = [
         "pub",
         "abbrev",
@@ -61,7 +61,8 @@ fn declares(line: &str, name: &str) -> bool {
     let first = words.next().unwrap_or("");
     let typed = first.ends_with(':') || words.next().is_some_and(|w| w.starts_with(':'));
     let bare = first.split(['(', ':', ';', ',']).next();
-    bare == Some(name) && (typed || behind > 0)
+    // in Rattle `name: ..` alone is a parameter, or a field in a literal
+    bare == Some(name) && (behind > 0 || typed && !rattle)
 }
 
 /// The source with that name: a crate's function, or the file before it.
@@ -75,7 +76,8 @@ fn source_of<'a>(cited: &'a str, file: Option<&Path>) -> (Option<PathBuf>, &'a s
 
 fn is_declared(source: &Path, name: &str) -> bool {
     let text = fs::read_to_string(root().join(source)).unwrap_or_default();
-    text.lines().any(|line| declares(line.trim(), name))
+    let rattle = source.extension().is_some_and(|ending| ending == "rt");
+    text.lines().any(|line| declares(line.trim(), name, rattle))
 }
 
 /// What is wrong with the citations of a line.
@@ -120,4 +122,5 @@ fn a_missing_name_is_found() {
     assert_eq!(faults("`crates/template/specs/Pel.antt`", &short).len(), 1);
     assert_eq!(faults("`context` of no file", &short).len(), 1);
     assert_eq!(faults("`calls::open`, `calls::shut`", &short).len(), 1);
+    assert_eq!(faults("`counter::school`", &short).len(), 1);
 }

@@ -36,7 +36,10 @@ pub fn to_file(path: &Path, bytes: &[u8], force: bool) -> Result<(), Failure> {
     match force {
         true => fs::rename(&draft.0, path).map_err(failed),
         false => match fs::hard_link(&draft.0, path) {
-            Err(error) if error.kind() == ErrorKind::AlreadyExists => check_free(path, force),
+            // even if what stood there is gone again: nothing was written
+            Err(error) if error.kind() == ErrorKind::AlreadyExists => {
+                check_free(path, force).and(Err(failed(error)))
+            }
             // some disks know no links: then the test above has to do
             Err(_) => fs::rename(&draft.0, path).map_err(failed),
             Ok(()) => Ok(()),
@@ -60,6 +63,10 @@ impl Draft {
                 Err(error) => return Err(error),
             }
         };
+        // a file that is replaced leaves its permissions to the new one
+        if let Ok(old) = fs::metadata(beside) {
+            file.set_permissions(old.permissions())?;
+        }
         file.write_all(bytes)?;
         file.sync_all()?;
         Ok(draft)

@@ -18,6 +18,7 @@ pub fn run(job: &Pack) -> Result<(), Failure> {
     let to_stdout = job.output == "-";
     if !to_stdout {
         output::check_free(path, job.force)?;
+        check_apart(path, &job.inputs)?;
     }
     let mut packing = Packing::new(job);
     for input in &job.inputs {
@@ -27,6 +28,22 @@ pub fn run(job: &Pack) -> Result<(), Failure> {
     match to_stdout {
         true => output::to_stdout(&file),
         false => output::to_file(path, &file, job.force),
+    }
+}
+
+/// Refuses to replace a page by the file it is packed into.
+fn check_apart(path: &Path, inputs: &[Input]) -> Result<(), Failure> {
+    let Ok(output) = path.canonicalize() else {
+        return Ok(());
+    };
+    let same = |input: &&Input| {
+        Path::new(&input.0)
+            .canonicalize()
+            .is_ok_and(|i| i == output)
+    };
+    match inputs.iter().find(same) {
+        None => Ok(()),
+        Some(input) => Err(Failure::data(input, "it is the output too")),
     }
 }
 

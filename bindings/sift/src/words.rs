@@ -76,7 +76,9 @@ impl Given {
         let Some(value) = self.value(name) else {
             return Ok(otherwise);
         };
-        let number = value.to_str().and_then(|text| text.parse().ok());
+        let digits = |text: &&str| text.bytes().all(|byte| byte.is_ascii_digit());
+        let number = value.to_str().filter(digits);
+        let number = number.and_then(|text| text.parse().ok());
         match number {
             Some(number) if (1..=most).contains(&number) => Ok(number),
             _ => Err(format!("{name} is a number from 1 to {most}")),

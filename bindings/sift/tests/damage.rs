@@ -186,7 +186,7 @@ fn a_damaged_band_is_named() {
     let (model, sheets) = small();
     let (start, lengths) = codes_of(&model, 1);
     let mut file = model.file.clone();
-    // no code has FF as its last byte and then the bytes of another band
+    // after FF comes at most 8F, so FF FF is in no code
     let at = start + lengths[0];
     file[at..at + lengths[1]].fill(0xFF);
     std::fs::write(dir.join("f"), &file).expect("a file");

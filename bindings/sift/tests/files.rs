@@ -34,6 +34,30 @@ fn a_packed_file_is_replaced_by_force_alone() {
 }
 
 #[test]
+fn a_page_is_not_replaced_by_its_own_file() {
+    let dir = directory("force_self");
+    save(&dir, "a.pbm", PAGE);
+    let said = "sift: a.pbm: it is the output too";
+    let words = ["pack", "a.pbm", "-o", "./a.pbm", "--force"];
+    sift(&dir, &words, b"").refused(1, &[said]);
+    assert_eq!(load(&dir, "a.pbm"), PAGE);
+}
+
+#[cfg(unix)]
+#[test]
+fn a_replaced_file_leaves_its_permissions() {
+    use std::os::unix::fs::PermissionsExt;
+    let dir = directory("force_mode");
+    save(&dir, "a.pbm", PAGE);
+    save(&dir, "f", b"dear");
+    let secret = fs::Permissions::from_mode(0o600);
+    fs::set_permissions(dir.join("f"), secret).expect("permissions");
+    sift(&dir, &["pack", "a.pbm", "-o", "f", "--force"], b"").fine();
+    let mode = fs::metadata(dir.join("f")).expect("a file").permissions();
+    assert_eq!(mode.mode() & 0o777, 0o600);
+}
+
+#[test]
 fn pages_are_replaced_by_force_alone() {
     let dir = directory("force_unpack");
     save(&dir, "a.pbm", PAGE);

@@ -55,6 +55,10 @@ const CASES: &[(&[&str], &str)] = &[
         "pack: there is no option --plain",
     ),
     (&["pack", "a.pbm", "-of"], "pack: there is no option -of"),
+    (
+        &["pack", "a.pbm", "-o", "f", "--rows", "+5"],
+        "pack: --rows is a number from 1 to 64",
+    ),
     (&["unpack"], "unpack: no file is named"),
     (&["unpack", "f"], "unpack: no output is named: -o DIR"),
     (
