@@ -1,247 +1,223 @@
-//! Measures the library beside the plain model, in one run, and writes the
-//! results as tables for docs/BENCHMARKS.md.
+//! Measures the library beside the plain model and, where the path of a shared
+//! library is given, beside that other build of it, all in one run, and writes
+//! the results as tables for docs/BENCHMARKS.md.
 //!
-//! Every figure is the best of many repetitions, in which the two take turns.
+//! Every figure is the best of many repetitions, in which all take turns.
 //! Each repetition starts from a copy of the same desk, made before the clock
 //! starts. The lent buffers are the same ones throughout: nobody clears them,
 //! since an accepted call writes only their front.
 
+mod other;
+mod side;
+
+use other::Other;
+use side::Side;
 use siftpebble_model::random::Random;
 use siftpebble_model::{sample, Direction};
 use std::time::Instant;
 
 const WIDTH: usize = 2048;
 const ROWS: usize = 64;
-const SCHOOL: u64 = 1;
 const CLASS: u64 = 5;
-const MODEL_KEY: siftpebble_model::Key = siftpebble_model::Key {
-    school: SCHOOL,
-    class: CLASS,
-};
-const KEY: siftpebble::Key = siftpebble::Key {
-    school: SCHOOL,
-    class: CLASS,
-};
 
-const REPETITIONS: usize = 60;
+const REPETITIONS: usize = 200;
 const SMALL_CALLS: usize = 500;
 
-/// A desk as both sides have it.
-#[derive(Clone)]
-struct Desks {
-    library: siftpebble::Desk,
-    model: siftpebble_model::Desk,
+/// Who is measured: the library first.
+struct Sides {
+    names: Vec<&'static str>,
+    desks: Vec<Box<dyn Side>>,
 }
 
-impl Desks {
-    fn new() -> Self {
-        Desks {
-            library: siftpebble::Desk::new(),
-            model: siftpebble_model::Desk::default(),
+impl Sides {
+    /// Empty desks: of the library, of the model, and of the other library.
+    fn new(other: Option<&str>) -> Self {
+        let mut sides = Sides {
+            names: vec!["library", "model"],
+            desks: vec![
+                Box::new(siftpebble::Desk::new()),
+                Box::new(siftpebble_model::Desk::default()),
+            ],
+        };
+        if let Some(path) = other {
+            sides.names.push("before");
+            sides.desks.push(Box::new(Other::load(path)));
         }
+        sides
     }
 
-    fn open(&mut self, class: u64, direction: Direction, width: u64) {
-        let key = siftpebble::Key { class, ..KEY };
-        match direction {
-            Direction::Write => self.library.open_write(key, width).expect("room"),
-            Direction::Read => self.library.open_read(key, width).expect("room"),
-        }
-        let key = siftpebble_model::Key { class, ..MODEL_KEY };
-        self.model.open(key, direction, width).expect("room");
+    fn copy(&self) -> Vec<Box<dyn Side>> {
+        self.desks.iter().map(|desk| desk.copy()).collect()
     }
 
-    fn close(&mut self, class: u64) {
-        let key = siftpebble::Key { class, ..KEY };
-        self.library.close(key).expect("an open page");
-        let key = siftpebble_model::Key { class, ..MODEL_KEY };
-        self.model.close(key).expect("an open page");
+    /// The columns of one job.
+    fn head(&self, job: &str) -> String {
+        let others = self.names[1..].iter();
+        let others: String = others.map(|name| format!(" {name} | ratio |")).collect();
+        format!(" {job}{} |{others}", self.names[0])
+    }
+
+    /// Their rule.
+    fn rule(&self) -> String {
+        "---|".repeat(2 * self.names.len() - 1)
     }
 }
 
-/// Best times of the library and of the model, in nanoseconds.
-struct Times {
-    library: f64,
-    model: f64,
-}
+/// The best times of one job, in the order of the sides, in nanoseconds.
+struct Times(Vec<f64>);
 
 impl Times {
     /// The cells of a table: times for one of so many equal things.
     fn cells(&self, count: usize) -> String {
-        let (library, model) = (self.library / count as f64, self.model / count as f64);
-        let ratio = self.library / self.model;
-        format!("{library:.2} | {model:.2} | {ratio:.2}")
+        let each = |time: &f64| time / count as f64;
+        let own = each(&self.0[0]);
+        let others = self.0[1..].iter().map(each);
+        let others: String = others
+            .map(|other| format!(" {other:.2} | {:.2} |", own / other))
+            .collect();
+        format!(" {own:.2} |{others}")
     }
 }
 
-/// How long `work` takes on a copy of a desk.
-fn time<D: Clone>(desk: &D, work: &mut impl FnMut(&mut D)) -> f64 {
-    let mut desk = desk.clone();
-    let start = Instant::now();
-    work(&mut desk);
-    start.elapsed().as_secs_f64() * 1e9
-}
-
-/// The library and the model take turns, so that whatever else slows the
-/// machine slows both.
-fn best(
-    desks: &Desks,
-    mut library: impl FnMut(&mut siftpebble::Desk),
-    mut model: impl FnMut(&mut siftpebble_model::Desk),
-) -> Times {
-    let mut best = Times {
-        library: f64::INFINITY,
-        model: f64::INFINITY,
-    };
+/// The sides take turns, so that whatever else slows the machine slows all.
+fn best(desks: &[Box<dyn Side>], mut work: impl FnMut(&mut dyn Side)) -> Times {
+    let mut best = vec![f64::INFINITY; desks.len()];
     for _ in 0..REPETITIONS {
-        best.library = best.library.min(time(&desks.library, &mut library));
-        best.model = best.model.min(time(&desks.model, &mut model));
+        for (best, desk) in best.iter_mut().zip(desks) {
+            let mut desk = desk.copy();
+            let start = Instant::now();
+            work(&mut *desk);
+            *best = best.min(start.elapsed().as_secs_f64() * 1e9);
+        }
     }
-    best
+    Times(best)
 }
 
-/// Writes one band again and again; answers its code too.
-fn time_write(pels: &[u8]) -> (Vec<u8>, Times) {
-    let mut desks = Desks::new();
-    desks.open(CLASS, Direction::Write, WIDTH as u64);
-    let (mut code, mut model_code) = (vec![0; 32_768], vec![0; 32_768]);
-    let mut length = 0;
-    let times = best(
-        &desks,
-        |desk| {
-            let band = desk.write(KEY, ROWS as u64, pels, &mut code);
-            length = band.expect("room").length;
-        },
-        |desk| {
-            let band = desk.write(MODEL_KEY, ROWS as u64, pels, &mut model_code);
-            band.expect("room");
-        },
-    );
-    assert_eq!(code, model_code);
-    code.truncate(length);
-    (code, times)
+/// The same desks with a page open.
+fn opened(sides: &Sides, direction: Direction) -> Vec<Box<dyn Side>> {
+    let mut desks = sides.copy();
+    for desk in &mut desks {
+        desk.open(CLASS, direction, WIDTH as u64);
+    }
+    desks
+}
+
+/// The code of a band, which all sides must give.
+fn code_of(sides: &Sides, pels: &[u8]) -> Vec<u8> {
+    let mut codes = opened(sides, Direction::Write).into_iter().map(|mut desk| {
+        let mut code = vec![0; 32_768];
+        let length = desk.write(CLASS, ROWS as u64, pels, &mut code);
+        code.truncate(length);
+        code
+    });
+    let first = codes.next().expect("the library");
+    assert!(codes.all(|code| code == first), "the codes differ");
+    first
+}
+
+/// Writes one band again and again.
+fn time_write(sides: &Sides, pels: &[u8]) -> Times {
+    let mut code = vec![0; 32_768];
+    best(&opened(sides, Direction::Write), |desk| {
+        desk.write(CLASS, ROWS as u64, pels, &mut code);
+    })
 }
 
 /// Reads one band again and again.
-fn time_read(code: &[u8], pels: &[u8]) -> Times {
-    let mut desks = Desks::new();
-    desks.open(CLASS, Direction::Read, WIDTH as u64);
-    let (mut rows, mut model_rows) = (vec![0; pels.len()], vec![0; pels.len()]);
-    let times = best(
-        &desks,
-        |desk| {
-            let band = desk.read(KEY, ROWS as u64, code, &mut rows);
-            band.expect("a good code");
-        },
-        |desk| {
-            let band = desk.read(MODEL_KEY, ROWS as u64, code, &mut model_rows);
-            band.expect("a good code");
-        },
-    );
-    assert_eq!((rows.as_slice(), model_rows.as_slice()), (pels, pels));
-    times
+fn time_read(sides: &Sides, code: &[u8], pels: &[u8]) -> Times {
+    let mut rows = vec![0; pels.len()];
+    let desks = opened(sides, Direction::Read);
+    for mut desk in desks.iter().map(|desk| desk.copy()) {
+        rows.fill(0xA5);
+        desk.read(CLASS, ROWS as u64, code, &mut rows);
+        assert_eq!(rows, pels, "the rows differ");
+    }
+    best(&desks, |desk| {
+        desk.read(CLASS, ROWS as u64, code, &mut rows)
+    })
 }
 
-fn bands() -> [(&'static str, Vec<u8>); 4] {
+fn bands() -> [(&'static str, Vec<u8>); 5] {
     let mut random = Random::new(1);
     [
         ("white", sample::rows(WIDTH, ROWS, |_, _| false)),
         ("ruled", sample::ruled(WIDTH, ROWS)),
         ("random", sample::noise(&mut random, WIDTH, ROWS, 50)),
         ("halftone", sample::halftone(WIDTH, ROWS)),
+        ("dots", sample::dots(&mut random, WIDTH, ROWS, 8)),
     ]
 }
 
-/// A full desk: four pages open, eight places taken, one page of width 1.
-fn full_desk(direction: Direction) -> Desks {
-    let mut desks = Desks::new();
-    for class in 11..15 {
-        desks.open(class, Direction::Write, WIDTH as u64);
-        desks.close(class);
+/// Full desks: four pages open, eight places taken, one page of width 1.
+fn full_desks(sides: &Sides, direction: Direction) -> Vec<Box<dyn Side>> {
+    let mut desks = sides.copy();
+    for desk in &mut desks {
+        for class in 11..15 {
+            desk.open(class, Direction::Write, WIDTH as u64);
+            desk.close(class);
+        }
+        for class in 21..24 {
+            desk.open(class, Direction::Write, WIDTH as u64);
+        }
+        desk.open(CLASS, direction, 1);
     }
-    for class in 21..24 {
-        desks.open(class, Direction::Write, WIDTH as u64);
-    }
-    desks.open(CLASS, direction, 1);
     desks
 }
 
 /// The codes of so many white bands of one pel, each from the state that the
 /// one before left.
-fn small_codes() -> Vec<[u8; 2]> {
-    let mut desk = full_desk(Direction::Write).model;
+fn small_codes(sides: &Sides) -> Vec<[u8; 2]> {
+    let mut desk = full_desks(sides, Direction::Write).remove(0);
     let mut code = [0; 2];
     let mut next = || {
-        desk.write(MODEL_KEY, 1, &[0], &mut code).expect("room");
+        desk.write(CLASS, 1, &[0], &mut code);
         code
     };
     (0..SMALL_CALLS).map(|_| next()).collect()
 }
 
 /// Writes bands of 1 x 1 on a full desk.
-fn time_small_writes() -> Times {
-    let (mut out, mut model_out) = ([0; 16], [0; 16]);
-    best(
-        &full_desk(Direction::Write),
-        |desk| {
-            for _ in 0..SMALL_CALLS {
-                desk.write(KEY, 1, &[0], &mut out).expect("room");
-            }
-        },
-        |desk| {
-            for _ in 0..SMALL_CALLS {
-                let band = desk.write(MODEL_KEY, 1, &[0], &mut model_out);
-                band.expect("room");
-            }
-        },
-    )
+fn time_small_writes(sides: &Sides) -> Times {
+    let mut out = [0; 16];
+    best(&full_desks(sides, Direction::Write), |desk| {
+        for _ in 0..SMALL_CALLS {
+            desk.write(CLASS, 1, &[0], &mut out);
+        }
+    })
 }
 
 /// Reads bands of 1 x 1 on a full desk.
-fn time_small_reads() -> Times {
-    let codes = small_codes();
-    let (mut out, mut model_out) = ([0; 16], [0; 16]);
-    best(
-        &full_desk(Direction::Read),
-        |desk| {
-            for code in &codes {
-                desk.read(KEY, 1, code, &mut out).expect("a good code");
-            }
-        },
-        |desk| {
-            for code in &codes {
-                let band = desk.read(MODEL_KEY, 1, code, &mut model_out);
-                band.expect("a good code");
-            }
-        },
-    )
+fn time_small_reads(sides: &Sides) -> Times {
+    let codes = small_codes(sides);
+    let mut out = [0; 16];
+    best(&full_desks(sides, Direction::Read), |desk| {
+        for code in &codes {
+            desk.read(CLASS, 1, code, &mut out);
+        }
+    })
 }
 
 fn main() {
+    let other = std::env::args().nth(1);
+    let sides = Sides::new(other.as_deref());
     println!("ns a pel, bands of {WIDTH} x {ROWS} from a new page, best of {REPETITIONS};");
     println!("the lent buffers are not cleared between calls.");
     println!();
-    println!(
-        "| band | code bytes | write: library | model | ratio | read: library | model | ratio |"
-    );
-    println!("|---|---|---|---|---|---|---|---|");
+    let (write, read) = (sides.head("write: "), sides.head("read: "));
+    println!("| band | code bytes |{write}{read}");
+    println!("|---|---|{0}{0}", sides.rule());
     for (name, pels) in bands() {
-        let (code, write) = time_write(&pels);
-        let read = time_read(&code, &pels);
-        let (length, pels) = (code.len(), WIDTH * ROWS);
-        println!(
-            "| {name} | {length} | {} | {} |",
-            write.cells(pels),
-            read.cells(pels)
-        );
+        let code = code_of(&sides, &pels);
+        let write = time_write(&sides, &pels).cells(WIDTH * ROWS);
+        let read = time_read(&sides, &code, &pels).cells(WIDTH * ROWS);
+        println!("| {name} | {} |{write}{read}", code.len());
     }
-    let (write, read) = (time_small_writes(), time_small_reads());
     println!();
     println!("ns a call, a band of 1 x 1 on a full desk (4 pages, 8 places), best of");
     println!("{REPETITIONS} times {SMALL_CALLS} calls:");
     println!();
-    println!("| call | library | model | ratio |");
-    println!("|---|---|---|---|");
-    println!("| write | {} |", write.cells(SMALL_CALLS));
-    println!("| read | {} |", read.cells(SMALL_CALLS));
+    println!("| call |{}", sides.head(""));
+    println!("|---|{}", sides.rule());
+    println!("| write |{}", time_small_writes(&sides).cells(SMALL_CALLS));
+    println!("| read |{}", time_small_reads(&sides).cells(SMALL_CALLS));
 }

@@ -44,6 +44,17 @@ pub fn noise(random: &mut Random, width: usize, height: usize, percent: usize) -
     rows(width, height, |_, _| random.chance(percent))
 }
 
+/// Single black pels on white, one at some place of each square cell.
+pub fn dots(random: &mut Random, width: usize, height: usize, cell: usize) -> Vec<u8> {
+    let across = width.div_ceil(cell);
+    let places: Vec<(usize, usize)> = (0..across * height.div_ceil(cell))
+        .map(|_| (random.below(cell), random.below(cell)))
+        .collect();
+    rows(width, height, |x, y| {
+        places[y / cell * across + x / cell] == (x % cell, y % cell)
+    })
+}
+
 /// A lawful table: like a young class's, like an old one's, or anything.
 pub fn table(random: &mut Random) -> Table {
     let (low, high) = random.pick(&[(0, 1), (0, 8), (0, ENTRIES), (44, ENTRIES), (58, ENTRIES)]);

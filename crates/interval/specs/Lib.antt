@@ -1,2 +1,3 @@
 pub mod Interval
 pub mod Growing
+pub mod Leading

@@ -16,6 +16,14 @@ pub struct Coded {
     pub shifts: u64,
 }
 
+// How many doublings bring a width to 1000 hex or more: its highest bit tells. Of 64 bits, 1000 hex has 51 leading zeros.
+fn shifts_for(width: u64) -> u64
+    requires { ⌜ (1 ≤ width) × (width < 8192) ⌝ }
+    ensures { λ r. ⌜ (r ≡ doublings 12 width) × (r ≤ 12) ⌝ }
+{
+    (u64::leading_zeros(width) as u64) - 51
+}
+
 impl Interval {
     pub fn whole() -> Self
         ensures { λ r. ⌜ r ≡ whole ⌝ }
@@ -46,24 +54,30 @@ impl Interval {
         }
     }
 
-    // Both doubled while the width is below 1000 hex.
+    // Both doubled while the width is below 1000 hex: all at once.
     pub fn grow(self) -> Coded
         requires { ⌜ (1 ≤ self .width) × (self .width < 8192) × (self .low < 2 ^ 26) × (self .count < 2 ^ 32) ⌝ }
         ensures { λ r. ⌜ (r .interval ≡ grown 12 self) × (r .shifts ≡ doublings 12 (self .width)) ⌝ }
     {
-        let mut v = self;
-        let mut shifts: u64 = 0;
-        while v.width < 0x1000 {
-            v = Interval {
-                low: 2 * v.low,
-                width: 2 * v.width,
-                count: v.count + 1,
+        // most pels shift nothing: no count and no move for them
+        if 0x1000 <= self.width {
+            return Coded {
+                interval: self,
+                shifts: 0,
             };
-            shifts += 1;
         }
+        let k = shifts_for(self.width);
+        let low = self.low << k;
+        let width = self.width << k;
+        let count = self.count + k;
+        let v = Interval {
+            low: low,
+            width: width,
+            count: count,
+        };
         Coded {
             interval: v,
-            shifts: shifts,
+            shifts: k,
         }
     }
 

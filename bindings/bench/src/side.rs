@@ -1,0 +1,77 @@
+//! What is measured: a desk of the library, of the model, or of another
+//! library, behind the same calls.
+
+use siftpebble_model::Direction;
+
+pub const SCHOOL: u64 = 1;
+
+/// A desk, and the calls that are measured. Each must be accepted.
+pub trait Side {
+    fn copy(&self) -> Box<dyn Side>;
+    fn open(&mut self, class: u64, direction: Direction, width: u64);
+    fn close(&mut self, class: u64);
+    /// Answers the code's length.
+    fn write(&mut self, class: u64, rows: u64, pels: &[u8], out: &mut [u8]) -> usize;
+    fn read(&mut self, class: u64, rows: u64, code: &[u8], out: &mut [u8]);
+}
+
+fn key(class: u64) -> siftpebble::Key {
+    let school = SCHOOL;
+    siftpebble::Key { school, class }
+}
+
+impl Side for siftpebble::Desk {
+    fn copy(&self) -> Box<dyn Side> {
+        Box::new(self.clone())
+    }
+
+    fn open(&mut self, class: u64, direction: Direction, width: u64) {
+        match direction {
+            Direction::Write => self.open_write(key(class), width).expect("room"),
+            Direction::Read => self.open_read(key(class), width).expect("room"),
+        }
+    }
+
+    fn close(&mut self, class: u64) {
+        siftpebble::Desk::close(self, key(class)).expect("an open page");
+    }
+
+    fn write(&mut self, class: u64, rows: u64, pels: &[u8], out: &mut [u8]) -> usize {
+        let band = siftpebble::Desk::write(self, key(class), rows, pels, out);
+        band.expect("room").length
+    }
+
+    fn read(&mut self, class: u64, rows: u64, code: &[u8], out: &mut [u8]) {
+        let band = siftpebble::Desk::read(self, key(class), rows, code, out);
+        band.expect("a good code");
+    }
+}
+
+fn model_key(class: u64) -> siftpebble_model::Key {
+    let school = SCHOOL;
+    siftpebble_model::Key { school, class }
+}
+
+impl Side for siftpebble_model::Desk {
+    fn copy(&self) -> Box<dyn Side> {
+        Box::new(self.clone())
+    }
+
+    fn open(&mut self, class: u64, direction: Direction, width: u64) {
+        siftpebble_model::Desk::open(self, model_key(class), direction, width).expect("room");
+    }
+
+    fn close(&mut self, class: u64) {
+        siftpebble_model::Desk::close(self, model_key(class)).expect("an open page");
+    }
+
+    fn write(&mut self, class: u64, rows: u64, pels: &[u8], out: &mut [u8]) -> usize {
+        let band = siftpebble_model::Desk::write(self, model_key(class), rows, pels, out);
+        band.expect("room").length
+    }
+
+    fn read(&mut self, class: u64, rows: u64, code: &[u8], out: &mut [u8]) {
+        let band = siftpebble_model::Desk::read(self, model_key(class), rows, code, out);
+        band.expect("a good code");
+    }
+}
