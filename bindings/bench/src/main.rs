@@ -2,8 +2,8 @@
 //! library is given, beside that other build of it, all in one run, and writes
 //! the results as tables for docs/BENCHMARKS.md.
 //!
-//! Every figure is the best of many repetitions, in which all take turns.
-//! Each repetition starts from a copy of the same desk, made before the clock
+//! A time is the best of many repetitions, in which all take turns; a ratio is
+//! the median of the repetitions' own ratios. Each repetition starts from a copy of the same desk, made before the clock
 //! starts. The lent buffers are the same ones throughout: nobody clears them,
 //! since an accepted call writes only their front.
 
@@ -20,7 +20,7 @@ const WIDTH: usize = 2048;
 const ROWS: usize = 64;
 const CLASS: u64 = 5;
 
-const REPETITIONS: usize = 200;
+const REPETITIONS: usize = 300;
 const SMALL_CALLS: usize = 500;
 
 /// Who is measured: the library first.
@@ -63,34 +63,52 @@ impl Sides {
     }
 }
 
-/// The best times of one job, in the order of the sides, in nanoseconds.
-struct Times(Vec<f64>);
+/// The times of one job, in nanoseconds: for each repetition, a time for each
+/// side in their order.
+struct Times(Vec<Vec<f64>>);
+
+fn median(mut values: Vec<f64>) -> f64 {
+    values.sort_by(f64::total_cmp);
+    values[values.len() / 2]
+}
 
 impl Times {
+    fn best(&self, side: usize) -> f64 {
+        let times = self.0.iter().map(|turn| turn[side]);
+        times.fold(f64::INFINITY, f64::min)
+    }
+
+    /// The library's time as a part of this side's in the same repetition: the
+    /// median, so that no single disturbed moment decides it.
+    fn ratio(&self, side: usize) -> f64 {
+        median(self.0.iter().map(|turn| turn[0] / turn[side]).collect())
+    }
+
     /// The cells of a table: times for one of so many equal things.
     fn cells(&self, count: usize) -> String {
-        let each = |time: &f64| time / count as f64;
-        let own = each(&self.0[0]);
-        let others = self.0[1..].iter().map(each);
-        let others: String = others
-            .map(|other| format!(" {other:.2} | {:.2} |", own / other))
-            .collect();
-        format!(" {own:.2} |{others}")
+        let each = |side| self.best(side) / count as f64;
+        let others = (1..self.0[0].len())
+            .map(|side| format!(" {:.2} | {:.2} |", each(side), self.ratio(side)));
+        format!(" {:.2} |{}", each(0), others.collect::<String>())
     }
 }
 
-/// The sides take turns, so that whatever else slows the machine slows all.
-fn best(desks: &[Box<dyn Side>], mut work: impl FnMut(&mut dyn Side)) -> Times {
-    let mut best = vec![f64::INFINITY; desks.len()];
-    for _ in 0..REPETITIONS {
-        for (best, desk) in best.iter_mut().zip(desks) {
-            let mut desk = desk.copy();
+/// The sides take turns, so that whatever else slows the machine slows all;
+/// each comes first as often as the others.
+fn measure(desks: &[Box<dyn Side>], mut work: impl FnMut(&mut dyn Side)) -> Times {
+    let mut turns = Vec::new();
+    for repetition in 0..REPETITIONS {
+        let mut turn = vec![0.0; desks.len()];
+        for place in 0..desks.len() {
+            let side = (repetition + place) % desks.len();
+            let mut desk = desks[side].copy();
             let start = Instant::now();
             work(&mut *desk);
-            *best = best.min(start.elapsed().as_secs_f64() * 1e9);
+            turn[side] = start.elapsed().as_secs_f64() * 1e9;
         }
+        turns.push(turn);
     }
-    Times(best)
+    Times(turns)
 }
 
 /// The same desks with a page open.
@@ -118,7 +136,7 @@ fn code_of(sides: &Sides, pels: &[u8]) -> Vec<u8> {
 /// Writes one band again and again.
 fn time_write(sides: &Sides, pels: &[u8]) -> Times {
     let mut code = vec![0; 32_768];
-    best(&opened(sides, Direction::Write), |desk| {
+    measure(&opened(sides, Direction::Write), |desk| {
         desk.write(CLASS, ROWS as u64, pels, &mut code);
     })
 }
@@ -132,7 +150,7 @@ fn time_read(sides: &Sides, code: &[u8], pels: &[u8]) -> Times {
         desk.read(CLASS, ROWS as u64, code, &mut rows);
         assert_eq!(rows, pels, "the rows differ");
     }
-    best(&desks, |desk| {
+    measure(&desks, |desk| {
         desk.read(CLASS, ROWS as u64, code, &mut rows)
     })
 }
@@ -179,7 +197,7 @@ fn small_codes(sides: &Sides) -> Vec<[u8; 2]> {
 /// Writes bands of 1 x 1 on a full desk.
 fn time_small_writes(sides: &Sides) -> Times {
     let mut out = [0; 16];
-    best(&full_desks(sides, Direction::Write), |desk| {
+    measure(&full_desks(sides, Direction::Write), |desk| {
         for _ in 0..SMALL_CALLS {
             desk.write(CLASS, 1, &[0], &mut out);
         }
@@ -190,7 +208,7 @@ fn time_small_writes(sides: &Sides) -> Times {
 fn time_small_reads(sides: &Sides) -> Times {
     let codes = small_codes(sides);
     let mut out = [0; 16];
-    best(&full_desks(sides, Direction::Read), |desk| {
+    measure(&full_desks(sides, Direction::Read), |desk| {
         for code in &codes {
             desk.read(CLASS, 1, code, &mut out);
         }
@@ -200,8 +218,8 @@ fn time_small_reads(sides: &Sides) -> Times {
 fn main() {
     let other = std::env::args().nth(1);
     let sides = Sides::new(other.as_deref());
-    println!("ns a pel, bands of {WIDTH} x {ROWS} from a new page, best of {REPETITIONS};");
-    println!("the lent buffers are not cleared between calls.");
+    println!("ns a pel, bands of {WIDTH} x {ROWS} from a new page, best of {REPETITIONS},");
+    println!("and the median ratio; the lent buffers are not cleared between calls.");
     println!();
     let (write, read) = (sides.head("write: "), sides.head("read: "));
     println!("| band | code bytes |{write}{read}");

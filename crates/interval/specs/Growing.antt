@@ -46,7 +46,9 @@ grown-none n i h = grown-jumped n i ∙ ap (λ (k : ℕ). jumped k i) (doublings
 -- there is a doubling exactly where the width is below 1000 hex
 pub doublings-some : (n a : ℕ) → ltb 0 (doublings (suc n) a) ≡ ltb a 4096
 unfolding doublings
-doublings-some n a = by-cond₂ (λ (k : ℕ) (b : Bool). ltb 0 k ≡ b) (ltb a 4096) (suc (doublings n (2 * a))) 0 true false (λ t. lt-ltb 0 (suc (doublings n (2 * a))) (omega arith)) (λ t. refl) ∙ whole-cond (ltb a 4096)
+doublings-some n a =
+    by-cond₂ (λ (k : ℕ) (b : Bool). ltb 0 k ≡ b) (ltb a 4096) (suc (doublings n (2 * a))) 0 true false
+    (λ t. lt-ltb 0 (suc (doublings n (2 * a))) (omega arith)) (λ t. refl) ∙ whole-cond (ltb a 4096)
   where
     whole-cond : (b : Bool) → cond b true false ≡ b
     whole-cond true = refl
@@ -55,7 +57,8 @@ doublings-some n a = by-cond₂ (λ (k : ℕ) (b : Bool). ltb 0 k ≡ b) (ltb a 
 pub doublings-few : (n a : ℕ) → doublings n a ≤ n
 unfolding doublings
 doublings-few zero a = omega arith
-doublings-few (suc n) a = by-cond (λ (k : ℕ). k ≤ suc n) (ltb a 4096) (suc (doublings n (2 * a))) 0 (λ t. omega (arith, doublings-few n (2 * a))) (λ t. omega arith)
+doublings-few (suc n) a =
+    by-cond (λ (k : ℕ). k ≤ suc n) (ltb a 4096) (suc (doublings n (2 * a))) 0 (λ t. omega (arith, doublings-few n (2 * a))) (λ t. omega arith)
 
 -- a pel's part is small enough to be doubled
 pub record Fits (v : Interval) : Type 0 where
@@ -64,6 +67,7 @@ pub record Fits (v : Interval) : Type 0 where
   pub low : v .low < 2 ^ 26
   pub count : v .count < 2 ^ 32
 
-pub part-fits : (q : ℕ) (e : Bool) (i : Interval) → 4096 ≤ i .width → i .width < 8192 → 1 ≤ q → q ≤ 0xAC1 → i .low < 2 ^ 25 → i .count < 2 ^ 32 → Fits (partOf (decision q e) i)
+pub part-fits : (q : ℕ) (e : Bool) (i : Interval) → 4096 ≤ i .width → i .width < 8192 → 1 ≤ q → q ≤ 0xAC1 → i .low < 2 ^ 25 → i .count < 2 ^ 32
+    → Fits (partOf (decision q e) i)
 part-fits q true i a b c d l n = record { some = omega arith; small = omega arith; low = omega arith; count = n }
 part-fits q false i a b c d l n = record { some = c; small = omega arith; low = omega arith; count = n }

@@ -1,23 +1,20 @@
--- The highest bit of a width tells how many doublings it wants. Assumes nothing.
+-- The leading zeros of a width tell how many doublings it wants. Assumes nothing.
 use native.Mathlib.Omega.{arith}
 use Rattle.interval.specs.Growing.{doublings-few}
 use Rattle.interval.specs.Leading.{leading-doublings}
 use Rattle.interval.proofs.shifts_for.Statement.{statement}
 use Rattle.interval.proofs.shifts_for.Tie as tie
-use Rattle.interval.proofs.shifts_for.Reads as reads
-use Rattle.interval.proofs.shifts_for.Lts as lts
 
--- src/lib.rt:24:6
 cast-result : tie.Need-cast-result
-cast-result c = let p = leading-doublings (c .args .width) (c .pre .0) (c .pre .1) in omega (arith, p)
+cast-result c = omega (arith, leading-doublings (c .args .width) (c .pre .0) (c .pre .1))
 
--- src/lib.rt:24:5
 sub-result : tie.Need-sub-result
-sub-result c = let p = leading-doublings (c .args .width) (c .pre .0) (c .pre .1) in omega (arith, p)
+sub-result c = omega (arith, leading-doublings (c .args .width) (c .pre .0) (c .pre .1))
 
--- src/lib.rt:20:1
 returns : tie.Need-returns
-returns c = let p = leading-doublings (c .args .width) (c .pre .0) (c .pre .1) in (p .2, omega (arith, p .2, doublings-few 12 (c .args .width)))
+returns c =
+    let p = leading-doublings (c .args .width) (c .pre .0) (c .pre .1) in
+    (p .2, omega (arith, p .2, doublings-few 12 (c .args .width)))
 
 pub shifts-for-spec : {M : Type 1} → statement M
 shifts-for-spec = tie.close (tie.spec cast-result sub-result returns)

@@ -1,10 +1,10 @@
 -- All doublings at once. Assumes nothing.
-use mathlib.Core.Path.{_≡_, sym, ap, _∙_}
+use mathlib.Core.Path.{sym, ap, _∙_}
 use Prim.Native.Nat.{ℕ, _+_}
 use native.Mathlib.Omega.{arith}
+use lib.Pow.{shl-exact}
 use borrow.Author.Needs.{needs}
 use Rattle.interval.specs.Growing.{jumped, grown-jumped, doublings-none, grown-none}
-use Rattle.interval.specs.Leading.{shift-fits}
 use Rattle.interval.proofs.Interval.grow.Statement.{statement}
 use Rattle.interval.proofs.Interval.grow.Tie as tie
 
@@ -28,9 +28,11 @@ add-count c = search needs
 returns-2 : tie.Need-returns-2
 returns-2 c =
     let i = c .before .before .before .before .before .before .args .self in
-    let k = c .before .before .before .shifts-for in (
-      (λ t. record { low = shift-fits (i .low) (k .result) (omega arith) (k .ensures .1) t; width = shift-fits (i .width) (k .result) (omega arith) (k .ensures .1) t; count = i .count + k .result })
-          ∙ ap (λ (n : ℕ). jumped n i) (k .ensures .0) ∙ sym (grown-jumped 12 i),
+    let k = c .before .before .before .shifts-for in
+    let low = shl-exact {a = i .low} 26 (k .result) 64 (omega arith) (omega arith) in
+    let width = shl-exact {a = i .width} 13 (k .result) 64 (omega arith) (omega arith) in (
+      (λ t. record { low = low t; width = width t; count = i .count + k .result }) ∙ ap (λ (n : ℕ). jumped n i) (k .ensures .0)
+          ∙ sym (grown-jumped 12 i),
       k .ensures .0,
     )
 
