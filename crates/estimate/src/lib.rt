@@ -20,12 +20,13 @@ impl Table {
     }
 }
 
-// The value Q of an entry's row. A match, and not an array, so that the values lie in constant memory and no pel copies them.
+// The value Q of an entry's row. A match, and not an array, so that the values lie in constant memory and no pel copies them;
+// over five bits, all of whose numbers have an arm, so that no pel asks whether its entry is in the table.
 pub fn row_of(e: u8) -> u64
     requires { ⌜ LawfulEntry e ⌝ }
     ensures { λ r. ⌜ r ≡ rowOf e ⌝ }
 {
-    let i = e / 2;
+    let i = (e / 2) % 32;
     match i {
         0 => 0x0AC1,
         1 => 0x0A81,
@@ -56,28 +57,22 @@ pub fn row_of(e: u8) -> u64
         26 => 0x0007,
         27 => 0x0005,
         28 => 0x0003,
+        29 => 0x0001,
+        30 => 0x0001,
         _ => 0x0001,
     }
 }
 
+// The falls of the thirty rows, two bits for each, row 0 in the lowest: nobody can foretell an unexpected pel, and so no pel branches on its row.
+const FALLS: u64 = 0x0BBBAAAAAAAA9554;
+
 // How far an entry falls after an unexpected pel: twice the index's fall.
 fn fall_of(i: u8) -> u8
-    requires { ⌜ 1 ≤ i ⌝ }
+    requires { ⌜ i ≤ 29 ⌝ }
     ensures { λ r. ⌜ r ≡ 2 * fall i ⌝ }
 {
-    if i < 7 {
-        return 2;
-    }
-    if i == 24 {
-        return 6;
-    }
-    if i == 26 {
-        return 6;
-    }
-    if i == 28 {
-        return 6;
-    }
-    4
+    let fall = (FALLS >> (2 * i)) % 4;
+    2 * (fall as u8)
 }
 
 // The entry after a renormalisation: on the expected pel the index rises, on the other it falls, and at row 0 the sense flips.

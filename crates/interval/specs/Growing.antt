@@ -40,9 +40,6 @@ unfolding doublings
 doublings-none zero a h = refl
 doublings-none (suc n) a h = if-ge a 4096 (suc (doublings n (2 * a))) 0 h
 
-pub grown-none : (n : ℕ) (i : Interval) → 4096 ≤ i .width → grown n i ≡ i
-grown-none n i h = grown-jumped n i ∙ ap (λ (k : ℕ). jumped k i) (doublings-none n (i .width) h) ∙ sym (jumped-none i)
-
 -- there is a doubling exactly where the width is below 1000 hex
 pub doublings-some : (n a : ℕ) → ltb 0 (doublings (suc n) a) ≡ ltb a 4096
 unfolding doublings

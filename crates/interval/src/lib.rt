@@ -1,6 +1,6 @@
 // The interval by value: one pel coded, the doublings counted.
 ghost use mathlib.Core.Path.{_≡_};
-ghost use Prim.Native.Nat.{_≤_, _<_, _^_};
+ghost use Prim.Native.Nat.{_*_, _≤_, _<_, _^_};
 ghost use Rattle.interval.specs.Interval.{whole, decision, partOf, grown, doublings, coded};
 
 // The lower end (what of it is in no byte yet), the width, and the shifts so far.
@@ -22,6 +22,17 @@ fn shifts_for(width: u64) -> u64
     ensures { λ r. ⌜ (r ≡ doublings 12 width) × (r ≤ 12) ⌝ }
 {
     (u64::leading_zeros(width) as u64) - 51
+}
+
+// How many of n expected pels of the size q fit into so much room.
+pub fn fits(n: usize, q: u64, room: u64) -> usize
+    requires { ⌜ (n ≤ 65535) × (1 ≤ q) × (q ≤ 0xAC1) × (room < 8192) ⌝ }
+    ensures { λ r. ⌜ (r ≤ n) × (r * q ≤ room) ⌝ }
+{
+    if (n as u64) * q <= room {
+        return n;
+    }
+    (room / q) as usize
 }
 
 impl Interval {
@@ -59,13 +70,6 @@ impl Interval {
         requires { ⌜ (1 ≤ self .width) × (self .width < 8192) × (self .low < 2 ^ 26) × (self .count < 2 ^ 32) ⌝ }
         ensures { λ r. ⌜ (r .interval ≡ grown 12 self) × (r .shifts ≡ doublings 12 (self .width)) ⌝ }
     {
-        // most pels shift nothing: no count and no move for them
-        if 0x1000 <= self.width {
-            return Coded {
-                interval: self,
-                shifts: 0,
-            };
-        }
         let k = shifts_for(self.width);
         let low = self.low << k;
         let width = self.width << k;

@@ -4,4 +4,5 @@ pub mod Fit
 pub mod Loops
 pub mod Lift
 pub mod OnePel
+pub mod Runs
 pub mod Ending

@@ -44,12 +44,6 @@ module _ (r : Coder) (q : ℕ) (e : Bool) (ready : Ready (lift r [])) (some : 1 
       shifts-steps 12 (part (decision q e) (lift r [])) ∙ steps-few k (part (decision q e) (lift r [])) h
       ∙ (λ t. record { interval = sym (grown-jumped 12 P) t; until = r .until - k; held = r .held; settled = [] })
 
-  -- no shift
-  pub pel-still : k ≡ 0 → pel (decision q e) (lift r []) ≡ lift (record { interval = coded (decision q e) (r .interval); until = r .until; held = r .held }) []
-  pel-still z =
-      let n : r .until - k ≡ r .until = omega arith in
-      pel-few (omega (arith, parted .wait)) ∙ (λ t. record { interval = coded (decision q e) (r .interval); until = n t; held = r .held; settled = [] })
-
   -- the byte goes out with k - until shifts left
   pub pel-bytes : r .until ≤ k
       → pel (decision q e) (lift r []) ≡ steps (k - r .until) (byte (there [] (P .low * 2 ^ r .until) (P .width * 2 ^ r .until) (P .count + r .until) (r .held)))

@@ -8,6 +8,7 @@ ghost use Rattle.octets.specs.Octets.{start, pel, byte, bytes, finish};
 ghost use Rattle.octets.specs.Fit.{Rest, Ready};
 ghost use Rattle.octets.specs.Loops.{steps};
 ghost use Rattle.octets.specs.Lift.{Out, Small, lift, settledOf, there};
+ghost use Rattle.octets.specs.Runs.{stillBy};
 use interval::Interval;
 
 // The registers: the interval, the shifts to go until a byte goes out, and the byte that may still take a carry.
@@ -153,6 +154,24 @@ impl Coder {
         }
     }
 
+    // Expected pels with no shift, whose sizes add up to n.
+    pub fn still(self, n: u64) -> Self
+        requires { ⌜ (n ≤ self .interval .width) × (self .interval .width < 8192) × (self .interval .low < 2 ^ 25) ⌝ }
+        ensures { λ r. ⌜ r ≡ stillBy n self ⌝ }
+    {
+        let v = self.interval;
+        let interval = Interval {
+            low: v.low + n,
+            width: v.width - n,
+            count: v.count,
+        };
+        Coder {
+            interval: interval,
+            until: self.until,
+            held: self.held,
+        }
+    }
+
     // One pel.
     pub fn pel(self, q: u64, expected: bool) -> Put
         requires { ⌜ Ready (lift self []) × (1 ≤ q) × (q ≤ 0xAC1) × (self .interval .count < 2 ^ 32) ⌝ }
@@ -164,15 +183,6 @@ impl Coder {
         let v = interval.code(q, expected);
         let k = v.shifts;
         let next = v.interval;
-        // most pels shift nothing: their way is the short one
-        if k == 0 {
-            let coder = Coder {
-                interval: next,
-                until: until,
-                held: held,
-            };
-            return none_settled(coder, 0);
-        }
         if k < until {
             let coder = Coder {
                 interval: next,

@@ -5,6 +5,8 @@ ghost use mathlib.Core.List.{[]};
 ghost use lib.ListN.{length, getD};
 ghost use Rattle.template.specs.Pels.{rowBytes, pelAt, pelsTo, rowPadded, bandPadded};
 ghost use Rattle.template.specs.Window.{Slid};
+ghost use Rattle.template.specs.Words.{Word};
+ghost use Rattle.template.specs.White.{White, Under, Clear, whiteWindow};
 
 // The bytes of a row.
 pub fn row_bytes(width: usize) -> usize
@@ -62,6 +64,95 @@ pub fn band_padded(pels: &[u8], width: usize, rows: usize) -> bool
     true
 }
 
+// A byte more at the end of the number that n bytes from k on are.
+fn join(row: &[u8], k: usize, n: usize, w: u64) -> u64
+    requires { ⌜ (k + n < length (now row)) × (n < 8) × Word (now row) k n w ⌝ }
+    ensures { λ r. ⌜ Word (now (row .entry)) k (n + 1) r ⌝ }
+{
+    let b = row[k + n] as u64;
+    w << 8 | b
+}
+
+// Eight bytes from k on as one number, the first on top: one read for the machine.
+fn word_at(row: &[u8], k: usize) -> u64
+    requires { ⌜ k + 8 ≤ length (now row) ⌝ }
+    ensures { λ r. ⌜ Word (now (row .entry)) k 8 r ⌝ }
+{
+    let one = join(row, k, 0, 0);
+    let two = join(row, k, 1, one);
+    let three = join(row, k, 2, two);
+    let four = join(row, k, 3, three);
+    let five = join(row, k, 4, four);
+    let six = join(row, k, 5, five);
+    let seven = join(row, k, 6, six);
+    join(row, k, 7, seven)
+}
+
+// Where the white pels from y on end, within the eight bytes from k on.
+fn white_in(row: &[u8], k: usize, y: usize) -> usize
+    requires { ⌜ (k + 8 ≤ length (now row)) × (k ≤ 65535) × (8 * k ≤ y) × (y < 8 * k + 64) ⌝ }
+    ensures { λ r. ⌜ (y ≤ r) × (r ≤ 8 * k + 64) × White (now (row .entry)) y r ⌝ }
+{
+    let w = word_at(row, k);
+    let mask = 0xFFFFFFFFFFFFFFFFu64 >> (y - 8 * k);
+    let zeros = u64::leading_zeros(w & mask) as usize;
+    8 * k + zeros
+}
+
+// Where the white pels from x on end, in a row of so many bytes; a row of less than eight is not looked at.
+pub fn white_to(row: &[u8], bytes: usize, x: usize) -> usize
+    requires { ⌜ (bytes ≤ length (now row)) × (bytes ≤ 8192) × (x < 8 * bytes) ⌝ }
+    ensures { λ r. ⌜ (x ≤ r) × White (now (row .entry)) x r ⌝ }
+{
+    if bytes < 8 {
+        return x;
+    }
+    let last = bytes - 8;
+    let mut k = if x / 8 < last { x / 8 } else { last };
+    let mut y = white_in(row, k, x);
+    while k + 8 <= last {
+        if y != 8 * k + 64 {
+            return y;
+        }
+        k += 8;
+        y = white_in(row, k, 8 * k);
+    }
+    if y == 8 * k + 64 {
+        if k < last {
+            return white_in(row, last, y);
+        }
+    }
+    y
+}
+
+// Where the pels from x on cease to lie under white ones, up to two places to the right.
+pub fn under_to(above: &[u8], width: usize, x: usize) -> usize
+    requires { ⌜ (width ≤ 2048) × (width ≤ 8 * length (now above)) × (x < width) ⌝ }
+    ensures { λ r. ⌜ (x ≤ r) × (r ≤ width) × Under (pelsTo (now (above .entry)) width) x r ⌝ }
+{
+    let y = white_to(above, row_bytes(width), x);
+    if width <= y {
+        return width;
+    }
+    if y < x + 2 {
+        return x;
+    }
+    y - 2
+}
+
+// Where the white pels under white ones end.
+pub fn run_to(row: &[u8], above: &[u8], width: usize, x: usize) -> usize
+    requires { ⌜ (width ≤ 2048) × (width ≤ 8 * length (now row)) × (width ≤ 8 * length (now above)) × (x < width) ⌝ }
+    ensures { λ r. ⌜ (x ≤ r) × Clear (now (row .entry)) (pelsTo (now (above .entry)) width) width x r ⌝ }
+{
+    let over = under_to(above, width, x);
+    let y = white_to(row, row_bytes(width), x);
+    if y < over {
+        return y;
+    }
+    over
+}
+
 // What a pel's context is made of: the five pels of the row above, the two of this row.
 pub struct Window {
     pub above: usize,
@@ -81,6 +172,15 @@ impl Window {
             above: a + 2 * b + 4 * c,
             this: 0,
         }
+    }
+
+    // At x, behind a white run.
+    pub fn white(above: &[u8], width: usize, x: usize) -> Self
+        requires { ⌜ (width ≤ 8 * length (now above)) × (x ≤ 65535) ⌝ }
+        ensures { λ r. ⌜ r ≡ whiteWindow (pelsTo (now (above .entry)) width) x ⌝ }
+    {
+        let a = edge_pel(above, width, x + 2);
+        Window { above: a, this: 0 }
     }
 
     // At x + 1, after the pel at x.

@@ -1,39 +1,42 @@
--- The fall of a row above 0, case by case. Assumes nothing.
-use mathlib.Core.Path.{refl}
+-- The two bits of a row are its fall, row by row. Assumes nothing.
+use mathlib.Core.Path.{_≡_, sym, ap, _∙_}
+use Prim.Native.Nat.{ℕ, _*_, _/_, _%_, _^_, _≤_, _<_}
 use native.Mathlib.Omega.{arith}
-use borrow.Author.Tests.{lt-ltb, le-ltb, ne-eqb}
-use Rattle.estimate.specs.Estimate.{fall}
+use mathlib.Core.Bool.{Bool}
+use lib.Dec.{T, eqb, eqb→eq}
+use borrow.Author.Needs.{needs}
+use Rattle.ground.specs.Tables.{at-each}
+use Rattle.estimate.specs.Estimate.{rows, fall}
 use Rattle.estimate.proofs.fall_of.Statement.{statement}
 use Rattle.estimate.proofs.fall_of.Tie as tie
 
+abbrev bitsOf : ℕ → ℕ
+bitsOf i = 0x0BBBAAAAAAAA9554 / 2 ^ (2 * i) % 4
+
+fallsSo : ℕ → ℕ → Bool
+fallsSo i q = eqb (bitsOf i) (fall i)
+
+bits-fall : (i : ℕ) → i ≤ 29 → bitsOf i ≡ fall i
+unfolding fallsSo fall
+bits-fall i h = eqb→eq (bitsOf i) (fall i) (at-each fallsSo 1 rows tt i (omega arith))
+
+mul-fall : tie.Need-mul-fall
+mul-fall c = search needs
+
+cast-fall : tie.Need-cast-fall
+cast-fall c = search needs
+
+shr-fall : tie.Need-shr-fall
+shr-fall c = search needs
+
+cast-result : tie.Need-cast-result
+cast-result c = search needs
+
+mul-result : tie.Need-mul-result
+mul-result c = search needs
+
 returns : tie.Need-returns
-unfolding fall
-returns c = let i = c .before .args .i in rw (ne-eqb i 0 (λ z. omega arith), lt-ltb i 7 (c .if1 .taken)) refl
-
-returns-2 : tie.Need-returns-2
-unfolding fall
-returns-2 c = rw (c .if2 .taken) refl
-
-returns-3 : tie.Need-returns-3
-unfolding fall
-returns-3 c = rw (c .if3 .taken) refl
-
-returns-4 : tie.Need-returns-4
-unfolding fall
-returns-4 c = rw (c .if4 .taken) refl
-
-returns-5 : tie.Need-returns-5
-unfolding fall
-returns-5 c =
-    let i = c .before .before .before .before .args .i in
-    rw (
-      ne-eqb i 0 (λ z. omega arith),
-      le-ltb i 7 (c .before .before .before .if1 .left),
-      ne-eqb i 24 (c .before .before .if2 .left),
-      ne-eqb i 26
-          (c .before .if3 .left),
-      ne-eqb i 28 (c .if4 .left),
-    ) refl
+returns c = omega (arith, bits-fall _ (c .pre))
 
 pub fall-of-spec : {M : Type 1} → statement M
-fall-of-spec = tie.close (tie.spec returns returns-2 returns-3 returns-4 returns-5)
+fall-of-spec = tie.close (tie.spec mul-fall cast-fall shr-fall cast-result mul-result returns)

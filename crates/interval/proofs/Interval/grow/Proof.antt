@@ -4,14 +4,9 @@ use Prim.Native.Nat.{ℕ, _+_}
 use native.Mathlib.Omega.{arith}
 use lib.Pow.{shl-exact}
 use borrow.Author.Needs.{needs}
-use Rattle.interval.specs.Growing.{jumped, grown-jumped, doublings-none, grown-none}
+use Rattle.interval.specs.Growing.{jumped, grown-jumped}
 use Rattle.interval.proofs.Interval.grow.Statement.{statement}
 use Rattle.interval.proofs.Interval.grow.Tie as tie
-
-returns : tie.Need-returns
-returns c =
-    let i = c .before .before .args .self in
-    (sym (grown-none 12 i (omega (arith, c .if1 .taken))), sym (doublings-none 12 (i .width) (omega (arith, c .if1 .taken))))
 
 shifts-for-requires : tie.Need-shifts-for-requires
 shifts-for-requires c κs = search needs
@@ -25,9 +20,9 @@ shl-width c = search needs
 add-count : tie.Need-add-count
 add-count c = search needs
 
-returns-2 : tie.Need-returns-2
-returns-2 c =
-    let i = c .before .before .before .before .before .before .args .self in
+returns : tie.Need-returns
+returns c =
+    let i = c .before .before .before .before .args .self in
     let k = c .before .before .before .shifts-for in
     let low = shl-exact {a = i .low} 26 (k .result) 64 (omega arith) (omega arith) in
     let width = shl-exact {a = i .width} 13 (k .result) 64 (omega arith) (omega arith) in (
@@ -37,4 +32,4 @@ returns-2 c =
     )
 
 pub grow-spec : {M : Type 1} → statement M
-grow-spec = tie.close (tie.spec returns shifts-for-requires shl-low shl-width add-count returns-2)
+grow-spec = tie.close (tie.spec shifts-for-requires shl-low shl-width add-count returns)
