@@ -1,28 +1,29 @@
 -- A row as the writer's loop meets it: after x pels the table, the registers, the window and the buffer are the definition's. Assumes nothing.
 use mathlib.Core.Path.{_≡_, refl, sym, ap, ap₂, _∙_, subst}
 use mathlib.Core.Logic.{_⊎_, inl, inr}
-use Prim.Native.Nat.{ℕ, suc, _+_, _*_, _%_, _≤_, _<_}
+use Prim.Native.Nat.{ℕ, suc, _+_, _-_, _*_, _%_, _≤_, _<_}
 use native.Mathlib.Omega.{arith}
 use mathlib.Core.Bool.{Bool, true, false, cond}
 use mathlib.Core.List.{List, [], _∷_, _++_, append-nil}
 use lib.ListN.{getD, set, length, take, length-append, length-take}
 use lib.Seq.{set-getD}
 use lib.Dec.{ltb, eqb}
+use Rattle.ground.specs.Bools.{no-way}
 use Rattle.ground.specs.Tests.{if-eq, if-ne}
 use Rattle.coder.specs.Writing.{Stage, step, after, after-append}
 use Rattle.coder.specs.Page.{Page, contextOf, entryAt, size, sense, taught, placed, move}
 use Rattle.estimate.specs.declared.Table.{Table}
 use Rattle.estimate.specs.Estimate.{rowOf, next, LawfulEntry, LawfulTable}
 use Rattle.estimate.specs.Laws.{row-sized, next-lawful, set-lawful}
-use borrow.Author.Tests.{lt-ltb}
-use Rattle.interval.specs.Interval.{Decision, decision, partOf, doublings}
-use Rattle.interval.specs.Growing.{doublings-some}
+use borrow.Author.Tests.{lt-ltb, le-ltb}
+use Rattle.interval.specs.Interval.{Decision, decision, partOf}
 use Rattle.octets.specs.declared.Coder.{Coder}
 use Rattle.octets.specs.Octets.{Registers, part, pel}
 use Rattle.octets.specs.Fit.{Ready, ready-pel}
 use Rattle.octets.specs.Loops.{behind, behind-pel, pel-count}
 use Rattle.octets.specs.declared.Put.{Put}
 use Rattle.octets.specs.Lift.{lift, settledOf}
+use Rattle.octets.specs.Runs.{stillBy, pel-upper}
 use Rattle.octets.specs.OnePel.{ready-bare}
 use Rattle.store.specs.Store.{stores, stores-append, length-stores}
 use Rattle.template.specs.Pels.{pelAt, pelsTo, context}
@@ -45,20 +46,28 @@ shiftedBy c e b = ltb (part (decided e b) (lift c []) .interval .width) 0x1000
 pub record Pelled (c : Coder) (e : ℕ) (b : Bool) (v : Pel) : Type 0 where
   pub registers : pel (decided e b) (lift c []) ≡ lift (v .coder) (bytesOf v)
   pub entry : v .entry ≡ cond (shiftedBy c e b) (next b e) e
-  pub shifts : v .shifts ≡ doublings 12 (partOf (decided e b) (c .interval) .width)
+  pub moved : v .moved ≡ shiftedBy c e b
+  pub quiet : v .moved ≡ false → v .settled ≡ 0
   pub few : v .settled ≤ 2
 
--- from what the octets say of a pel
-module _ (c : Coder) (e : ℕ) (b : Bool) (u : Put) (registers : pel (decided e b) (lift c []) ≡ lift (u .coder) (settledOf u)) (few : u .settled ≤ 2)
-    (shifts : u .shifts ≡ doublings 12 (partOf (decided e b) (c .interval) .width)) where
-  moved-by : shiftedBy c e b ≡ ltb 0 (u .shifts)
-  moved-by = sym (doublings-some 11 (partOf (decided e b) (c .interval) .width)) ∙ ap (ltb 0) (sym shifts)
+-- an expected pel with no shift: its size is taken, and that is all
+abbrev pub stillPel : Coder → ℕ → Pel
+stillPel c e = record { coder = stillBy (rowOf e) c; entry = e; moved = false; settled = 0; first = 0; second = 0 }
 
-  pub pelled-still : u .shifts ≡ 0 → Pelled c e b (record { coder = u .coder; entry = e; shifts = u .shifts; settled = u .settled; first = u .first; second = u .second })
-  pelled-still z = record { registers = registers; entry = rw (moved-by, z); shifts = shifts; few = few }
+pub pelled-still : (c : Coder) (e : ℕ) → 4096 + rowOf e ≤ c .interval .width → Pelled c e true (stillPel c e)
+pelled-still c e h =
+    let n : shiftedBy c e true ≡ false = le-ltb (c .interval .width - rowOf e) 4096 (omega arith) in
+    record { registers = pel-upper (rowOf e) (lift c []) h; entry = rw n; moved = sym n; quiet = λ z. refl; few = omega arith }
 
-  pub pelled-moved : (u .shifts ≡ 0 → ⊥) → (n : ℕ) → n ≡ next b e → Pelled c e b (record { coder = u .coder; entry = n; shifts = u .shifts; settled = u .settled; first = u .first; second = u .second })
-  pelled-moved z n k = record { registers = registers; entry = rw (moved-by, lt-ltb 0 (u .shifts) (omega arith)) k; shifts = shifts; few = few }
+-- a pel that shifts, from what the octets say of it
+abbrev pub movedPel : Put → ℕ → Pel
+movedPel u n = record { coder = u .coder; entry = n; moved = true; settled = u .settled; first = u .first; second = u .second }
+
+pub pelled-moved : (c : Coder) (e : ℕ) (b : Bool) (u : Put) (n : ℕ) → partOf (decided e b) (c .interval) .width < 4096
+    → pel (decided e b) (lift c []) ≡ lift (u .coder) (settledOf u) → u .settled ≤ 2 → n ≡ next b e → Pelled c e b (movedPel u n)
+pelled-moved c e b u n h r f k =
+    let m : shiftedBy c e b ≡ true = lt-ltb (partOf (decided e b) (c .interval) .width) 4096 h in
+    record { registers = r; entry = rw m k; moved = sym m; quiet = λ z. no-way z; few = f }
 
 pub pelled-ready : (c : Coder) (e : ℕ) (b : Bool) (v : Pel) → Ready (lift c []) → Pelled c e b v → Ready (lift (v .coder) [])
 pelled-ready c e b v r k =
@@ -71,16 +80,19 @@ pub pelled-lawful : (c : Coder) (e : ℕ) (b : Bool) (v : Pel) → LawfulEntry e
 pelled-lawful c e b v l k =
     subst LawfulEntry (sym (k .entry)) (Rattle.ground.specs.Tests.by-cond LawfulEntry (shiftedBy c e b) (next b e) e (λ t. next-lawful b e l) (λ t. l))
 
--- where there was no shift the entry is as it was, and so is the table
-pub pelled-kept : (c : Coder) (t : List ℕ) (cx : ℕ) (b : Bool) (v : Pel) → Pelled c (getD t cx 0) b v → v .shifts ≡ 0 → set t cx (v .entry) ≡ t
-pelled-kept c t cx b v k z =
-    ap (set t cx) (k .entry ∙ ap (λ (s : Bool). cond s (next b (getD t cx 0)) (getD t cx 0)) (sym (doublings-some 11 _) ∙ ap (ltb 0) (sym (k .shifts) ∙ z))) ∙ set-getD t cx 0
+-- where there was no shift, no byte was settled,
+pub pelled-quiet : (c : Coder) (e : ℕ) (b : Bool) (v : Pel) → Pelled c e b v → v .moved ≡ false → bytesOf v ≡ []
+pelled-quiet c e b v k z = ap (λ (n : ℕ). take n (v .first ∷ v .second ∷ [])) (k .quiet z)
 
--- so a table that is changed only after a shift is the table with that entry
-pub pelled-table : {A B : Type 0} (c : Coder) (t t′ : Table) (cx : ℕ) (b : Bool) (v : Pel) → Pelled c (getD (t .entries) cx 0) b v → (B → v .shifts ≡ 0)
-    → (A × (t′ ≡ record { entries = set (t .entries) cx (v .entry) })) ⊎ (B × (t′ ≡ t)) → t′ .entries ≡ set (t .entries) cx (v .entry)
-pelled-table c t t′ cx b v k z (inl (s, e)) = ap (λ (u : Table). u .entries) e
-pelled-table c t t′ cx b v k z (inr (s, e)) = ap (λ (u : Table). u .entries) e ∙ sym (pelled-kept c (t .entries) cx b v k (z s))
+-- and a table and a buffer that were left alone are those with that entry and with those bytes
+pub pelled-kept : (c : Coder) (t out : List ℕ) (cx at : ℕ) (b : Bool) (v : Pel) → Pelled c (getD t cx 0) b v → v .moved ≡ false
+    → (t ≡ set t cx (v .entry)) × (out ≡ stores out at (bytesOf v)) × (at ≡ at + v .settled)
+unfolding stores
+pelled-kept c t out cx at b v k z = (
+  sym (ap (set t cx) (k .entry ∙ ap (λ (s : Bool). cond s (next b (getD t cx 0)) (getD t cx 0)) (sym (k .moved) ∙ z)) ∙ set-getD t cx 0),
+  ap (stores out at) (sym (pelled-quiet c (getD t cx 0) b v k z)),
+  omega (arith, k .quiet z),
+)
 
 -- the bytes before stay before
 pub lift-behind : (c : Coder) (xs : List ℕ) → lift c xs ≡ behind xs (lift c [])

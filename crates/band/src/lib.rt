@@ -1,29 +1,34 @@
 // Bands: written into a lent buffer.
 ghost use mathlib.Core.Path.{_≡_};
 ghost use mathlib.Core.List.{[]};
-ghost use Prim.Native.Nat.{_+_, _-_, _*_, _≤_, _<_, _^_};
-ghost use mathlib.Core.Bool.{_&&_};
+ghost use Prim.Native.Nat.{_+_, _-_, _*_, _%_, _≤_, _<_, _^_};
+ghost use mathlib.Core.Bool.{true, _&&_};
 ghost use lib.Dec.{leb};
 ghost use lib.ListN.{length};
-ghost use Rattle.estimate.specs.Estimate.{LawfulEntry, LawfulTable};
+ghost use Rattle.estimate.specs.Estimate.{rowOf, LawfulEntry, LawfulTable};
 ghost use Rattle.octets.specs.Fit.{Ready};
 ghost use Rattle.octets.specs.Lift.{lift};
 ghost use Rattle.template.specs.Pels.{pelsTo, rowAt, rowBytes};
+ghost use Rattle.template.specs.White.{Clear};
 ghost use Rattle.band.specs.Band.{maxCode, written, lastRow, wroteAnswer, wroteOut};
-ghost use Rattle.band.specs.Rows.{Pelled, RowDone};
+ghost use Rattle.band.specs.Rows.{stillPel, movedPel, Pelled, RowDone};
 ghost use Rattle.band.specs.Bands.{BandAt};
 use estimate::Table;
 use octets::Coder;
+use octets::Put;
 use template::Window;
 
 // No code is longer.
 pub const MAX_CODE: usize = 32768;
 
-// What a pel gives: the registers, its context's entry, its shifts, and the bytes settled, two at the most.
+// The entry of index 19, whose Q is 71 hex. Below it runs are too short to be looked for.
+const LEARNED: u8 = 38;
+
+// What a pel gives: the registers, its context's entry, whether it shifted, and the bytes settled, two at the most.
 pub struct Pel {
     pub coder: Coder,
     pub entry: u8,
-    pub shifts: u64,
+    pub moved: bool,
     pub settled: usize,
     pub first: u8,
     pub second: u8,
@@ -45,32 +50,77 @@ pub struct Wrote {
     pub last: [u8; 256],
 }
 
-// One pel in the context whose entry is e: the expected one, or the other.
-pub fn put_pel(coder: Coder, e: u8, expected: bool) -> Pel
-    requires { ⌜ Ready (lift coder []) × LawfulEntry e × (coder .interval .count < 2 ^ 32) ⌝ }
-    ensures { λ r. ⌜ Pelled coder e expected r ⌝ }
+// An expected pel with no shift: most are such.
+pub fn still_pel(coder: Coder, e: u8, q: u64) -> Pel
+    requires { ⌜ (q ≡ rowOf e) × (0x1000 + q ≤ coder .interval .width) × Ready (lift coder []) ⌝ }
+    ensures { λ r. ⌜ r ≡ stillPel coder e ⌝ }
 {
-    let v = coder.pel(estimate::row_of(e), expected);
-    let next = v.coder;
-    if v.shifts == 0 {
-        return Pel {
-            coder: next,
-            entry: e,
-            shifts: v.shifts,
-            settled: v.settled,
-            first: v.first,
-            second: v.second,
-        };
+    let next = coder.still(q);
+    Pel {
+        coder: next,
+        entry: e,
+        moved: false,
+        settled: 0,
+        first: 0,
+        second: 0,
     }
-    let entry = estimate::next_entry(e, expected);
+}
+
+// A pel that shifted, and its context's next entry.
+pub fn moved_pel(v: Put, entry: u8) -> Pel
+    ensures { λ r. ⌜ r ≡ movedPel v entry ⌝ }
+{
+    let next = v.coder;
     Pel {
         coder: next,
         entry: entry,
-        shifts: v.shifts,
+        moved: true,
         settled: v.settled,
         first: v.first,
         second: v.second,
     }
+}
+
+// One pel in the context whose entry is e: the expected one, or the other. Each has its own way, so that neither asks again which it is.
+pub fn put_pel(coder: Coder, e: u8, expected: bool) -> Pel
+    requires { ⌜ Ready (lift coder []) × LawfulEntry e × (coder .interval .count < 2 ^ 32) ⌝ }
+    ensures { λ r. ⌜ Pelled coder e expected r ⌝ }
+{
+    let q = estimate::row_of(e);
+    if expected {
+        if 0x1000 + q <= coder.interval.width {
+            return still_pel(coder, e, q);
+        }
+        let v = coder.pel(q, true);
+        return moved_pel(v, estimate::next_entry(e, true));
+    }
+    let v = coder.pel(q, false);
+    moved_pel(v, estimate::next_entry(e, false))
+}
+
+// Whether a white run may begin: context 0, which expects white and has learned it so well that the next pels hardly shift.
+pub fn starts_run(white: u8, cx: usize, p: u8) -> bool
+    requires { ⌜ p ≤ 1 ⌝ }
+    ensures { λ r. ⌜ (r ≡ true → (white % 2 ≡ 0) × (cx ≡ 0)) ⌝ }
+{
+    if white < LEARNED {
+        return false;
+    }
+    if cx != 0 {
+        return false;
+    }
+    p + white % 2 == 0
+}
+
+// Where the run at x ends: as it is known, or by a look along both rows.
+fn run_end(row: &[u8], above: &[u8], width: usize, x: usize, known: usize) -> usize
+    requires { ⌜ (width ≤ 2048) × (width ≤ 8 * length (now row)) × (width ≤ 8 * length (now above)) × (x < width) × Clear (now row) (pelsTo (now above) width) width x known ⌝ }
+    ensures { λ r. ⌜ (x ≤ r) × Clear (now (row .entry)) (pelsTo (now (above .entry)) width) width x r ⌝ }
+{
+    if x < known {
+        return known;
+    }
+    template::run_to(row, above, width, x)
 }
 
 // One row, under the row above it.
@@ -82,17 +132,31 @@ pub fn write_row(row: &[u8], above: &[u8], width: usize, start: Run, out: &mut [
     let mut table = start.table;
     let mut at = start.at;
     let mut window = Window::start(above, width);
+    let mut end: usize = 0;
     let mut x: usize = 0;
     while x < width {
         let p = template::pel_at(row, x);
         let cx = 4 * window.above + window.this;
+        let white = table.entries[0];
+        if starts_run(white, cx, p) {
+            end = run_end(row, above, width, x, end);
+            let q = estimate::row_of(white);
+            let n = interval::fits(end - x, q, coder.interval.width - 0x1000);
+            if n != 0 {
+                let size = (n as u64) * q;
+                coder = coder.still(size);
+                x += n;
+                window = Window::white(above, width, x);
+                continue;
+            }
+        }
         let e = table.entries[cx];
         let v = put_pel(coder, e, p == e % 2);
-        if v.shifts != 0 {
-            table.entries[cx] = v.entry;
-        }
         coder = v.coder;
-        at = store::put_two(out, at, v.settled, v.first, v.second);
+        if v.moved {
+            table.entries[cx] = v.entry;
+            at = store::put_two(out, at, v.settled, v.first, v.second);
+        }
         window = window.slide(above, width, x, p);
         x += 1;
     }

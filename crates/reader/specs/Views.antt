@@ -143,9 +143,6 @@ pub record ReadPel (c : Coder) (v : View) (code : List ℕ) (e : ℕ) (t : Told)
   pub small : t .view .x < 2 ^ 32
 
 -- the lower part of what is in sight
-pub part-is : (e l q p : ℕ) → q ≡ rowOf e → p ≡ 2 ^ l → q * p ≡ rowOf e * 2 ^ l
-part-is e l q p a b = ap₂ (λ (x y : ℕ). x * y) a b
-
 pub part-small : (e l q p : ℕ) → q ≡ rowOf e → p ≡ 2 ^ l → l ≤ 7 → q * p ≤ 352384
 part-small e l q p a b h =
     let m : 2 ^ l ≤ 2 ^ 7 = pow-mono h in
@@ -159,11 +156,12 @@ module _ (c : Coder) (v : View) (code : List ℕ) (e : ℕ) (b : Bool) (u : Pel)
   abbrev part′ : Sight
   part′ = taken (rowOf e) b seen
 
-  pub told : decide (rowOf e) seen ≡ b → Pelled c e b u → part′ ≡ sightOf v₁ (part′ .width) code → k ≡ u .shifts
+  pub told : decide (rowOf e) seen ≡ b → Pelled c e b u → part′ ≡ sightOf v₁ (part′ .width) code
+      → k ≡ doublings 12 (partOf (decision (rowOf e) b) (c .interval) .width)
       → ((w : ℕ) → sightOf v₂ (w * 2 ^ k) code ≡ seeks k (sightOf v₁ w code)) → v₂ .at ≤ length code → v₂ .look ≤ 7 → v₂ .x < 2 ^ 32
       → ReadPel c v code e (record { expected = b; view = v₂; pel = u })
   told d p t n a x y z =
-      let m : doublings 12 (part′ .width) ≡ k = ap (doublings 12) (taken-width (rowOf e) b seen (c .interval) refl) ∙ sym (p .shifts) ∙ sym n in
+      let m : doublings 12 (part′ .width) ≡ k = ap (doublings 12) (taken-width (rowOf e) b seen (c .interval) refl) ∙ sym n in
       let s : seek 12 part′ ≡ sightOf v₂ (part′ .width * 2 ^ k) code
       = seek-seeks 12 part′ ∙ ap (λ (j : ℕ). seeks j part′) m ∙ ap (seeks k) t ∙ sym (a (part′ .width)) in
       let w : part′ .width * 2 ^ k ≡ u .coder .interval .width

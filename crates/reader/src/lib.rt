@@ -9,6 +9,7 @@ ghost use Rattle.estimate.specs.Estimate.{LawfulEntry, LawfulTable};
 ghost use Rattle.octets.specs.Octets.{bits};
 ghost use Rattle.coder.specs.Reading.{pelOf};
 ghost use Rattle.template.specs.Pels.{rowBytes, pelsTo};
+ghost use Rattle.template.specs.White.{Under};
 ghost use Rattle.octets.specs.Fit.{Ready};
 ghost use Rattle.octets.specs.Lift.{lift};
 ghost use Rattle.exact.specs.Sight.{opened};
@@ -16,6 +17,7 @@ ghost use Rattle.exact.specs.Sight as law;
 ghost use Rattle.reader.specs.Views.{sightOf, seeks, ReadPel};
 ghost use Rattle.reader.specs.ReadRow.{matchAt, matches};
 ghost use Rattle.reader.specs.Lines.{LineRead};
+ghost use Rattle.reader.specs.Runs.{viewBy};
 ghost use Rattle.reader.specs.Reads.{BandRead};
 ghost use Rattle.reader.specs.Found.{BandFound};
 use band::Pel;
@@ -106,6 +108,30 @@ impl View {
         }
     }
 
+    // After expected pels with no shift, whose sizes add up to n.
+    pub fn still(self, n: u64) -> Self
+        requires { ⌜ (self .look ≤ 7) × (n * 2 ^ self .look ≤ self .x) × (self .x < 2 ^ 32) ⌝ }
+        ensures { λ r. ⌜ r ≡ viewBy n self ⌝ }
+    {
+        let part = n * octets::power(self.look);
+        View {
+            x: self.x - part,
+            look: self.look,
+            last: self.last,
+            at: self.at,
+        }
+    }
+
+    // How much expected pels may take, beside a writer of that width: no shift, and all of them told by what is in sight.
+    pub fn room(self, wide: u64) -> u64
+        requires { ⌜ (0x1000 ≤ wide) × (self .look ≤ 7) ⌝ }
+        ensures { λ r. ⌜ (0x1000 + r ≤ wide) × (r * 2 ^ self .look ≤ self .x) ⌝ }
+    {
+        let still = wide - 0x1000;
+        let told = self.x >> self.look;
+        if still < told { still } else { told }
+    }
+
     // After k shifts: bytes are read until they reach that far.
     pub fn advance(self, code: &[u8], k: u64) -> Self
         requires { ⌜ (self .at ≤ length (now code)) × (self .look ≤ 7) × (self .x < 2 ^ 32) × (k ≤ 12) ⌝ }
@@ -129,28 +155,34 @@ pub fn read_pel(coder: Coder, view: View, code: &[u8], e: u8) -> Told
     requires { ⌜ Ready (lift coder []) × LawfulEntry e × (coder .interval .count < 2 ^ 32) × (view .at ≤ length (now code)) × (view .look ≤ 7) × (view .x < 2 ^ 32) ⌝ }
     ensures { λ r. ⌜ ReadPel coder view (now (code .entry)) e r ⌝ }
 {
-    let part = estimate::row_of(e) * octets::power(view.look);
+    let q = estimate::row_of(e);
+    let part = q * octets::power(view.look);
     if part <= view.x {
-        let v = band::put_pel(coder, e, true);
-        let rest = View {
-            x: view.x - part,
-            look: view.look,
-            last: view.last,
-            at: view.at,
-        };
+        let rest = view.still(q);
+        if 0x1000 + q <= coder.interval.width {
+            let pel = band::still_pel(coder, e, q);
+            return Told {
+                expected: true,
+                view: rest,
+                pel: pel,
+            };
+        }
+        let v = coder.pel(q, true);
         let next = rest.advance(code, v.shifts);
+        let pel = band::moved_pel(v, estimate::next_entry(e, true));
         return Told {
             expected: true,
             view: next,
-            pel: v,
+            pel: pel,
         };
     }
-    let v = band::put_pel(coder, e, false);
+    let v = coder.pel(q, false);
     let next = view.advance(code, v.shifts);
+    let pel = band::moved_pel(v, estimate::next_entry(e, false));
     Told {
         expected: false,
         view: next,
-        pel: v,
+        pel: pel,
     }
 }
 
@@ -221,6 +253,17 @@ pub fn pel_in_byte(p: u8, x: usize) -> u8
     p << (7 - x % 8)
 }
 
+// Where the run at x ends, as far as the row above tells: as it is known, or by a look along that row.
+fn run_end(above: &[u8], width: usize, x: usize, known: usize) -> usize
+    requires { ⌜ (width ≤ 2048) × (width ≤ 8 * length (now above)) × (x < width) × (known ≤ width) × Under (pelsTo (now above) width) x known ⌝ }
+    ensures { λ r. ⌜ (x ≤ r) × (r ≤ width) × Under (pelsTo (now (above .entry)) width) x r ⌝ }
+{
+    if x < known {
+        return known;
+    }
+    template::under_to(above, width, x)
+}
+
 // One row, under the row above it.
 pub fn read_row(code: &[u8], above: &[u8], width: usize, start: Reading) -> Line
     requires { ⌜ (width ≤ 2048) × (width ≤ 8 * length (now above)) × (1 ≤ width) × LawfulTable (start .table .entries) × Ready (lift (start .coder) []) × (start .coder .interval .count < 2 ^ 31) × (start .at < 800000000) × (start .view .at ≤ length (now code)) × (start .view .look ≤ 7) × (start .view .x < 2 ^ 32) ⌝ }
@@ -233,20 +276,35 @@ pub fn read_row(code: &[u8], above: &[u8], width: usize, start: Reading) -> Line
     let mut view = start.view;
     let mut window = Window::start(above, width);
     let mut row = [0u8; 256];
+    let mut end: usize = 0;
     let mut x: usize = 0;
     while x < width {
         let cx = 4 * window.above + window.this;
+        let white = table.entries[0];
+        if band::starts_run(white, cx, 0) {
+            end = run_end(above, width, x, end);
+            let q = estimate::row_of(white);
+            let n = interval::fits(end - x, q, view.room(coder.interval.width));
+            if n != 0 {
+                let size = (n as u64) * q;
+                coder = coder.still(size);
+                view = view.still(size);
+                x += n;
+                window = Window::white(above, width, x);
+                continue;
+            }
+        }
         let e = table.entries[cx];
         let told = read_pel(coder, view, code, e);
-        let p = pel_told(e, told.expected);
         let v = told.pel;
-        if v.shifts != 0 {
-            table.entries[cx] = v.entry;
-        }
         coder = v.coder;
         view = told.view;
-        good = match_two(code, at, v.settled, v.first, v.second, good);
-        at = at + v.settled;
+        if v.moved {
+            table.entries[cx] = v.entry;
+            good = match_two(code, at, v.settled, v.first, v.second, good);
+            at = at + v.settled;
+        }
+        let p = pel_told(e, told.expected);
         row[x / 8] = row[x / 8] + pel_in_byte(p, x);
         window = window.slide(above, width, x, p);
         x += 1;

@@ -1,37 +1,81 @@
--- One pel in its context. Assumes nothing.
-use borrow.Author.Needs.{needs}
+-- One pel in its context, in one of three ways. Assumes nothing.
+use Prim.Native.Nat.{_-_}
+use native.Mathlib.Omega.{arith}
+use mathlib.Core.Bool.{true, false}
 use Rattle.estimate.specs.Laws.{row-sized}
 use Rattle.band.specs.Rows.{pelled-still, pelled-moved}
+use borrow.Author.Needs.{needs}
 use Rattle.band.proofs.put_pel.Statement.{statement}
 use Rattle.band.proofs.put_pel.Tie as tie
 
--- src/lib.rt:38:23
 row-of-requires : tie.Need-row-of-requires
 row-of-requires c κs = search needs
 
--- src/lib.rt:38:9
-pel-requires : tie.Need-pel-requires
-pel-requires c κs = let a = c .before .args in rw (c .row-of .ensures) (c .before .pre .0, row-sized (a .e) .some, row-sized (a .e) .small, c .before .pre .2)
+add-if2 : tie.Need-add-if2
+add-if2 c = omega (arith, c .before .row-of .ensures, row-sized (c .before .before .args .e) .small)
 
--- src/lib.rt:41:9
+still-pel-requires : tie.Need-still-pel-requires
+still-pel-requires c κs = search needs
+
 returns : tie.Need-returns
 returns c =
     let a = c .before .before .before .before .before .args in
-    let v = rw (c .before .before .before .before .row-of .ensures) at (c .before .before .before .pel .ensures) in
-    pelled-still (a .coder) (a .e) (a .expected) (c .before .before .before .pel .result) (v .0) (v .1) (v .2) (c .if1 .taken)
+    let q = c .before .before .before .before .row-of .ensures in
+    rw (c .before .before .before .if1 .taken, c .still-pel .ensures) (pelled-still (a .coder) (a .e) (omega (arith, q, c .before .if2 .taken)))
 
--- src/lib.rt:43:9
+pel-requires : tie.Need-pel-requires
+pel-requires c κs =
+    let a = c .before .before .before .before .args in
+    let p = c .before .before .before .before .pre in
+    rw (c .before .before .before .row-of .ensures) (p .0, row-sized (a .e) .some, row-sized (a .e) .small, p .2)
+
 next-entry-requires : tie.Need-next-entry-requires
 next-entry-requires c κs = search needs
 
--- src/lib.rt:33:1
+moved-pel-requires : tie.Need-moved-pel-requires
+moved-pel-requires c κs = search needs
+
 returns-2 : tie.Need-returns-2
 returns-2 c =
-    let a = c .before .before .before .before .before .before .args in
-    let v = rw (c .before .before .before .before .before .row-of .ensures) at (c .before .before .before .before .pel .ensures) in
-    pelled-moved (a .coder) (a .e) (a .expected) (c .before .before .before .before .pel .result) (v .0) (v .1) (v .2) (c .before .if1 .left) _
-    (c .next-entry .ensures)
+    let a = c .before .before .before .before .before .before .before .args in
+    let q = c .before .before .before .before .before .before .row-of .ensures in
+    let v = rw q at (c .before .before .pel .ensures) in
+    rw (c .before .before .before .before .before .if1 .taken, c .moved-pel .ensures)
+    (pelled-moved (a .coder) (a .e) true (c .before .before .pel .result) _ (omega (arith, q, c .before .before .before .if2 .left)) (v .0) (v .1) (c .before .next-entry .ensures))
+
+pel-requires-2 : tie.Need-pel-requires-2
+pel-requires-2 c κs =
+    let a = c .before .before .args in
+    let p = c .before .before .pre in
+    rw (c .before .row-of .ensures) (p .0, row-sized (a .e) .some, row-sized (a .e) .small, p .2)
+
+next-entry-requires-2 : tie.Need-next-entry-requires-2
+next-entry-requires-2 c κs = search needs
+
+moved-pel-requires-2 : tie.Need-moved-pel-requires-2
+moved-pel-requires-2 c κs = search needs
+
+returns-3 : tie.Need-returns-3
+returns-3 c =
+    let a = c .before .before .before .before .before .args in
+    let q = c .before .before .before .before .row-of .ensures in
+    let v = rw q at (c .before .before .pel2 .ensures) in
+    rw (c .before .before .before .if1 .left, c .moved-pel2 .ensures)
+    (pelled-moved (a .coder) (a .e) false (c .before .before .pel2 .result) _ (omega (arith, row-sized (a .e) .small)) (v .0) (v .1) (c .before .next-entry2 .ensures))
 
 pub put-pel-spec : {M : Type 1} → statement M
 put-pel-spec =
-    tie.close (tie.spec row-of-requires pel-requires returns next-entry-requires returns-2)
+    tie.close
+    (tie.spec
+    row-of-requires
+    add-if2
+    still-pel-requires
+    returns
+    pel-requires
+    next-entry-requires
+    moved-pel-requires
+    returns-2
+    pel-requires-2
+    next-entry-requires-2
+    moved-pel-requires-2
+    returns-3)

@@ -1,212 +1,234 @@
--- A row is read as the laws' reader reads it, and compared as it goes: the loop's invariant is `RowRead`. Assumes nothing.
-use mathlib.Core.Path.{refl}
-use Prim.Native.Nat.{_-_}
+-- A row is read as the laws' reader reads it, and compared as it goes: the loop's invariant is `RowRead`, and that a run reaches as far as it is
+-- known to. Assumes nothing.
+use mathlib.Core.Path.{_≡_, refl, sym, ap, _∙_, subst}
+use mathlib.Core.Logic.{⊎-elim}
+use mathlib.Core.Bool.{Bool, _&&_}
+use Prim.Native.Nat.{ℕ, _+_, _-_, _*_, _≤_, _^_}
+use native.Mathlib.Nat.{mul-le-mul-right}
 use native.Mathlib.Numerals.{add-one}
 use native.Mathlib.Omega.{arith}
+use borrow.Author.Needs.{needs}
+use mathlib.Core.List.{[]}
+use lib.ListN.{getD, set}
+use Rattle.estimate.specs.declared.Table.{Table}
+use Rattle.estimate.specs.Laws.{row-sized}
+use Rattle.octets.specs.OnePel.{low-fits}
 use Rattle.template.specs.Pels.{pelsTo}
+use Rattle.template.specs.White.{Under, under-none, under-part}
 use Rattle.template.specs.Window.{pels-bits, slid-context}
 use Rattle.template.specs.Packing.{row-none}
-use Rattle.band.specs.Rows.{pelled-table}
-use Rattle.reader.specs.ReadRow.{RowRead, read-start, read-turn, read-window, read-room}
+use Rattle.band.specs.Rows.{bytesOf, pelled-kept}
+use Rattle.reader.specs.ReadRow.{RowRead, matches, read-start, read-turn, read-window, read-room}
+use Rattle.reader.specs.Runs.{told-so, match-none, read-jump}
 use Rattle.reader.specs.Lines.{line-read}
 use Rattle.reader.proofs.read_row.Statement.{statement}
 use Rattle.reader.proofs.read_row.Tie as tie
 
 abbrev Inv-loop : tie.InvT-loop
-Inv-loop code above width coder₀ table₀ at₀ good₀ view₀ window₀ row₀ x₀ coder table at good view window row x =
+Inv-loop code above width coder₀ table₀ at₀ good₀ view₀ window₀ row₀ end₀ x₀ coder table at good view window row end x =
     RowRead width (pelsTo above width) (table₀ .entries) coder₀ code at₀ good₀ view₀ row (table .entries) coder window view at good x
+    × (end ≤ width) × Under (pelsTo above width) x end
 
 abbrev μ-loop : tie.MeasureT-loop
-μ-loop code above width coder₀ table₀ at₀ good₀ view₀ window₀ row₀ x₀ coder table at good view window row x =
+μ-loop code above width coder₀ table₀ at₀ good₀ view₀ window₀ row₀ end₀ x₀ coder table at good view window row end x =
     width - x
 
--- src/lib.rt:235:9
 start-requires : tie.Need-start-requires Inv-loop μ-loop
 start-requires c κs = c .before .before .before .before .before .pre .1
 
--- src/lib.rt:238:5
 loop-holds : tie.Need-loop-holds Inv-loop μ-loop
 loop-holds c =
-    let q = c .before .before .before .before .before .before .pre in read-start _ _ _ _ _ _ _ _ _ (c .start .ensures) (q .3) (q .4) row-none (q .7)
-    (q .8) (q .9)
+    let p = c .before .before .before .before .before .before .pre in
+    (read-start _ _ _ _ _ _ _ _ _ (c .start .ensures) (p .3) (p .4) row-none (p .7) (p .8) (p .9), omega arith, under-none _ _ _ (omega arith))
 
--- src/lib.rt:239:18
 mul-cx : tie.Need-mul-cx Inv-loop μ-loop
 mul-cx c =
     let a = c .before .before .before .before .before .before .before .before .before .args in
     let l = c .before .before .loop in
-    let w = read-window _ _ _ _ _ _ _ _ _ _ _ _ _ _ _ _ (pels-bits (a .above .now) (a .width)) (l .inv) in
+    let w = read-window _ _ _ _ _ _ _ _ _ _ _ _ _ _ _ _ (pels-bits (a .above .now) (a .width)) (l .inv .0) in
     omega arith
 
--- src/lib.rt:239:18
 add-cx : tie.Need-add-cx Inv-loop μ-loop
 add-cx c =
     let a = c .before .before .before .before .before .before .before .before .before .before .args in
     let l = c .before .before .before .loop in
-    let w = read-window _ _ _ _ _ _ _ _ _ _ _ _ _ _ _ _ (pels-bits (a .above .now) (a .width)) (l .inv) in
+    let w = read-window _ _ _ _ _ _ _ _ _ _ _ _ _ _ _ _ (pels-bits (a .above .now) (a .width)) (l .inv .0) in
     omega arith
 
--- src/lib.rt:240:17
-element-copy-out-e : tie.Need-element-copy-out-e Inv-loop μ-loop
-element-copy-out-e c =
-    let a = c .before .before .before .before .before .before .before .before .before .before .args in
-    let l = c .before .before .before .loop in
-    let w = read-window _ _ _ _ _ _ _ _ _ _ _ _ _ _ _ _ (pels-bits (a .above .now) (a .width)) (l .inv) in
-    omega arith
+element-copy-out-white : tie.Need-element-copy-out-white Inv-loop μ-loop
+element-copy-out-white c = search needs
 
--- src/lib.rt:241:13
-read-pel-requires : tie.Need-read-pel-requires Inv-loop μ-loop
-read-pel-requires c κs =
-    let l = c .before .before .before .before .loop in
-    let q = c .before .before .before .before .before .before .before .before .before .before .before .pre in (
-      l .inv .ready,
-      l .inv .lawful _,
-      omega (
-        arith,
-        l .inv .count,
-        l .inv .passed,
-        q .0,
-        q .5,
-      ),
-      l .inv .within,
-      l .inv .near,
-      l .inv .small,
+starts-run-requires : tie.Need-starts-run-requires Inv-loop μ-loop
+starts-run-requires c κs = omega arith
+
+run-end-requires : tie.Need-run-end-requires Inv-loop μ-loop
+run-end-requires c κs =
+    let p = c .before .before .before .before .before .before .before .before .before .before .before .before .before .pre in
+    let l = c .before .before .before .before .before .before .loop in
+    (p .0, p .1, c .before .before .before .before .before .loop-test .taken, l .inv .1, l .inv .2)
+
+row-of-requires : tie.Need-row-of-requires Inv-loop μ-loop
+row-of-requires c κs = c .before .before .before .before .before .before .before .loop .inv .0 .lawful 0
+
+sub-fits : tie.Need-sub-fits Inv-loop μ-loop
+sub-fits c = c .before .run-end .ensures .0
+
+room-requires : tie.Need-room-requires Inv-loop μ-loop
+room-requires c κs = let l = c .before .before .before .before .before .before .before .before .loop in (l .inv .0 .ready .wide, l .inv .0 .near)
+
+fits-requires : tie.Need-fits-requires Inv-loop μ-loop
+fits-requires c κs =
+    let l = c .before .before .before .before .before .before .before .before .before .loop in
+    let e = c .before .row-of .ensures in
+    let r = row-sized (getD (l .table .entries) 0 0) in
+    let f = l .inv .0 .ready .rest .fit in
+    (omega (arith, c .before .before .run-end .ensures .1, c .before .before .before .before .before .before .before .before .before .before .before .before .before .before .before .before .pre .0), omega (arith, e, r .some), omega (arith, e, r .small), omega (arith, c .room .ensures .0, f .narrow))
+
+mul-size : tie.Need-mul-size Inv-loop μ-loop
+mul-size c = omega (arith, c .before .fits2 .ensures .1, c .before .before .room .ensures .0, c .before .before .before .before .before .before .before .before .before .before .before .loop .inv .0 .ready .rest .fit .narrow)
+
+still-requires : tie.Need-still-requires Inv-loop μ-loop
+still-requires c κs =
+    let f = c .before .before .before .before .before .before .before .before .before .before .before .loop .inv .0 .ready .rest .fit in
+    (omega (arith, c .before .fits2 .ensures .1, c .before .before .room .ensures .0), omega (arith, f .narrow), low-fits _ f)
+
+still-requires-2 : tie.Need-still-requires-2 Inv-loop μ-loop
+still-requires-2 c κs =
+    let l = c .before .before .before .before .before .before .before .before .before .before .before .before .loop in
+    (l .inv .0 .near, told-so _ _ _ _ _ (c .before .before .fits2 .ensures .1) (c .before .before .before .room .ensures .1), l .inv .0 .small)
+
+add-x : tie.Need-add-x Inv-loop μ-loop
+add-x c = omega (arith, c .before .before .before .fits2 .ensures .0, c .before .before .before .before .before .before .run-end .ensures .1, c .before .before .before .before .before .before .before .before .before .before .before .before .before .before .before .before .before .before .before .before .pre .0)
+
+white-requires : tie.Need-white-requires Inv-loop μ-loop
+white-requires c κs =
+    let p = c .before .before .before .before .before .before .before .before .before .before .before .before .before .before .before .before .before .before .before .before .pre in
+    (p .1, omega (arith, c .before .before .before .fits2 .ensures .0, c .before .before .before .before .before .before .run-end .ensures .0, c .before .before .before .before .before .before .run-end .ensures .1, p .0))
+
+loop-less : tie.Need-loop-less Inv-loop μ-loop
+loop-less c = omega (arith, c .before .before .before .if2 .taken, c .before .before .before .before .before .before .before .before .before .before .before .before .before .loop-test .taken)
+
+loop-again : tie.Need-loop-again Inv-loop μ-loop
+loop-again c =
+    let a = c .before .before .before .before .before .before .before .before .before .before .before .before .before .before .before .before .before .before .before .before .before .args in
+    let l = c .before .before .before .before .before .before .before .before .before .before .before .before .before .before .loop in
+    let u = c .before .before .before .before .before .before .before .run-end .ensures in
+    let q = c .before .before .before .before .before .before .row-of in
+    let m = c .before .before .before .before .before .room .ensures in
+    let n = c .before .before .before .before .fits2 in
+    let so = c .before .before .before .before .before .before .before .before .before .starts-run .ensures (c .before .before .before .before .before .before .before .before .if1 .taken) in
+    rw (c .before .before .still .ensures, c .before .still2 .ensures, c .white2 .ensures) (
+      read-jump (a .width) (pelsTo (a .above .now) (a .width)) (a .start .table .entries) (a .start .coder) (a .code .now) (a .start .at)
+          (a .start .good) (a .start .view) (l .row) (l .table .entries) (l .at) (l .good) (so .0) (pels-bits (a .above .now) (a .width)) (c .before .before .before .before .before .before .before .before .before .before .before .before .before .before .before .before .before .before .before .before .before .pre .0)
+          (l .coder) (l .window) (l .view) (l .x) (c .before .before .before .before .before .before .before .run-end .result) (n .result) _ (l .inv .0) (so .1) (u .1) (u .2) (u .0) (n .ensures .0)
+          (ap (λ (z : ℕ). n .result * z) (q .ensures)) (omega (arith, n .ensures .1, m .0)) (told-so _ _ _ _ _ (n .ensures .1) (m .1)),
+      u .1,
+      under-part _ _ _ _ _ (omega arith) (omega arith) (u .2),
     )
 
--- src/lib.rt:242:13
+element-copy-out-e : tie.Need-element-copy-out-e Inv-loop μ-loop
+element-copy-out-e c =
+    let a = c .before .before .before .before .before .before .before .before .before .before .before .before .before .args in
+    let l = c .before .before .before .before .before .before .loop in
+    let w = read-window _ _ _ _ _ _ _ _ _ _ _ _ _ _ _ _ (pels-bits (a .above .now) (a .width)) (l .inv .0) in
+    omega arith
+
+read-pel-requires : tie.Need-read-pel-requires Inv-loop μ-loop
+read-pel-requires c κs =
+    let l = c .before .before .before .before .before .before .before .loop in
+    let p = c .before .before .before .before .before .before .before .before .before .before .before .before .before .before .pre in
+    let i = l .inv .0 in
+    (i .ready, i .lawful _, omega (arith, i .count, i .passed, p .0, p .5), i .within, i .near, i .small)
+
+element-write-table : tie.Need-element-write-table Inv-loop μ-loop
+element-write-table c =
+    let a = c .before .before .before .before .before .before .before .before .before .before .before .before .before .before .before .before .before .before .before .args in
+    let l = c .before .before .before .before .before .before .before .before .before .before .before .before .loop in
+    let w = read-window _ _ _ _ _ _ _ _ _ _ _ _ _ _ _ _ (pels-bits (a .above .now) (a .width)) (l .inv .0) in
+    omega arith
+
+match-two-requires : tie.Need-match-two-requires Inv-loop μ-loop
+match-two-requires c κs =
+    let i = c .before .before .before .before .before .before .before .before .before .before .before .before .loop .inv .0 in
+    let p = c .before .before .before .before .before .before .before .before .before .before .before .before .before .before .before .before .before .before .before .pre in
+    (omega (arith, i .place, i .few, i .passed, p .0, p .6), c .before .before .before .before .read-pel .ensures .pelled .few)
+
+add-at : tie.Need-add-at Inv-loop μ-loop
+add-at c =
+    let i = c .before .before .before .before .before .before .before .before .before .before .before .before .before .before .loop .inv .0 in
+    let p = c .before .before .before .before .before .before .before .before .before .before .before .before .before .before .before .before .before .before .before .before .before .pre in
+    omega (arith, i .place, i .few, i .passed, p .0, p .6, c .before .before .before .before .before .before .read-pel .ensures .pelled .few)
+
 pel-told-requires : tie.Need-pel-told-requires Inv-loop μ-loop
 pel-told-requires c κs = tt
 
--- src/lib.rt:244:9
-element-write-table : tie.Need-element-write-table Inv-loop μ-loop
-element-write-table c =
-    let a = c .before .before .before .before .before .before .before .before .before .before .before .before .before .before .before .before .args in
-    let l = c .before .before .before .before .before .before .before .before .before .loop in
-    let w = read-window _ _ _ _ _ _ _ _ _ _ _ _ _ _ _ _
-    (pels-bits (a .above .now) (a .width)) (l .inv) in omega arith
-
--- src/lib.rt:247:9
-match-two-requires : tie.Need-match-two-requires Inv-loop μ-loop
-match-two-requires c κs =
-    let l = c .before .before .before .before .before .before .before .before .before .before .before .loop in
-    let q = c .before .before .before .before .before .before .before .before .before .before .before .before .before .before .before .before .before .before .pre
-    in (
-      omega (arith, l .inv .place, l .inv .few, l .inv .passed, q .0, q .6),
-      c .before .before .before .before .before .before .read-pel .ensures .pelled .few,
-    )
-
--- src/lib.rt:248:14
-add-at : tie.Need-add-at Inv-loop μ-loop
-add-at c =
-    let l = c .before .before .before .before .before .before .before .before .before .before .before .before .before .loop in
-    let q = c .before .before .before .before .before .before .before .before .before .before .before .before .before .before .before .before .before .before .before .before .pre
-    in omega (
-      arith,
-      l .inv .place,
-      l .inv .few,
-      l .inv .passed,
-      q .0,
-      q .6,
-      c .before .before .before .before .before .before .before .before .read-pel .ensures .pelled .few,
-    )
-
--- src/lib.rt:250:18
 array-read-row : tie.Need-array-read-row Inv-loop μ-loop
-array-read-row c =
-    omega (
-      arith,
-      c .before .before .before .before .before .before .before .before .before .before .before .before .loop-test .taken,
-      c .before .before .before .before .before .before .before .before .before .before .before .before .before .before .before .before .before .before .before .before .pre .0,
-    )
+array-read-row c = omega (arith, c .before .before .before .before .before .before .before .before .before .before .before .before .loop-test .taken, c .before .before .before .before .before .before .before .before .before .before .before .before .before .before .before .before .before .before .before .before .pre .0)
 
--- src/lib.rt:250:27
 pel-in-byte-requires : tie.Need-pel-in-byte-requires Inv-loop μ-loop
-pel-in-byte-requires c κs = c .before .before .before .before .before .before .before .pel-told .ensures .1
+pel-in-byte-requires c κs = c .pel-told .ensures .1
 
--- src/lib.rt:250:18
 add-row : tie.Need-add-row Inv-loop μ-loop
 add-row c =
-    let l = c .before .before .before .before .before .before .before .before .before .before .before .before .before .before .loop in omega (
-      arith,
-      c .pel-in-byte .ensures .0,
-      read-room _ _ _ _ _ _ _ _ (l .row) (l .table .entries) (l .coder) (l .window) (l .view) (l .at) (l .good) (l .x)
-          (c .before .before .before .before .before .before .before .before .pel-told .result) (l .inv) (omega (
-            arith,
-            c .before .before .before .before .before .before .before .before .before .before .before .before .before .loop-test .taken,
-            c .before .before .before .before .before .before .before .before .before .before .before .before .before .before .before .before .before .before .before .before .before .pre .0,
-          ))
-          (c .before .before .before .before .before .before .before .before .pel-told .ensures .1),
-    )
+    let l = c .before .before .before .before .before .before .before .before .before .before .before .before .before .before .loop in
+    let t = c .before .pel-told in
+    let h = read-room _ _ _ _ _ _ _ _ (l .row) (l .table .entries) (l .coder) (l .window) (l .view) (l .at) (l .good) (l .x) (t .result) (l .inv .0)
+    (omega (arith, c .before .before .before .before .before .before .before .before .before .before .before .before .before .loop-test .taken, c .before .before .before .before .before .before .before .before .before .before .before .before .before .before .before .before .before .before .before .before .before .pre .0)) (t .ensures .1) in
+    omega (arith, c .pel-in-byte .ensures .0, h)
 
--- src/lib.rt:250:9
 array-write-row : tie.Need-array-write-row Inv-loop μ-loop
-array-write-row c =
-    omega (
-      arith,
-      c .before .before .before .before .before .before .before .before .before .before .before .before .before .loop-test .taken,
-      c .before .before .before .before .before .before .before .before .before .before .before .before .before .before .before .before .before .before .before .before .before .pre .0,
-    )
+array-write-row c = omega (arith, c .before .before .before .before .before .before .before .before .before .before .before .before .before .loop-test .taken, c .before .before .before .before .before .before .before .before .before .before .before .before .before .before .before .before .before .before .before .before .before .pre .0)
 
--- src/lib.rt:251:9
 slide-requires : tie.Need-slide-requires Inv-loop μ-loop
 slide-requires c κs =
-    let a = c .before .before .before .before .before .before .before .before .before .before .before .before .before .before .before .before .before .before .before .before .before .args
-    in
+    let a = c .before .before .before .before .before .before .before .before .before .before .before .before .before .before .before .before .before .before .before .before .before .args in
     let l = c .before .before .before .before .before .before .before .before .before .before .before .before .before .before .loop in
-    let w = read-window _ _ _ _ _ _ _ _ _ _ _ _ _ _ _ _ (pels-bits (a .above .now) (a .width)) (l .inv) in (
-      c .before .before .before .before .before .before .before .before .before .before .before .before .before .before .before .before .before .before .before .before .before .pre .1,
-      omega (
-        arith,
-        c .before .before .before .before .before .before .before .before .before .before .before .before .before .loop-test .taken,
-        c .before .before .before .before .before .before .before .before .before .before .before .before .before .before .before .before .before .before .before .before .before .pre .0,
-      ),
-      c .before .before .before .before .before .before .before .before .pel-told .ensures .1,
-      w .0,
-      w .1,
-    )
+    let p = c .before .before .before .before .before .before .before .before .before .before .before .before .before .before .before .before .before .before .before .before .before .pre in
+    let w = read-window _ _ _ _ _ _ _ _ _ _ _ _ _ _ _ _ (pels-bits (a .above .now) (a .width)) (l .inv .0) in
+    (p .1, omega (arith, c .before .before .before .before .before .before .before .before .before .before .before .before .before .loop-test .taken, p .0), c .before .pel-told .ensures .1, w .0, w .1)
 
--- src/lib.rt:252:9
-add-x : tie.Need-add-x Inv-loop μ-loop
-add-x c =
-    omega (
-      arith,
-      c .before .before .before .before .before .before .before .before .before .before .before .before .before .before .loop-test .taken,
-      c .before .before .before .before .before .before .before .before .before .before .before .before .before .before .before .before .before .before .before .before .before .before .pre .0,
-    )
+add-x-2 : tie.Need-add-x-2 Inv-loop μ-loop
+add-x-2 c = omega (arith, c .before .before .before .before .before .before .before .before .before .before .before .before .before .before .loop-test .taken, c .before .before .before .before .before .before .before .before .before .before .before .before .before .before .before .before .before .before .before .before .before .before .pre .0)
 
--- src/lib.rt:238:5
-loop-less : tie.Need-loop-less Inv-loop μ-loop
-loop-less c = omega (arith, c .before .before .before .before .before .before .before .before .before .before .before .before .before .before .loop-test .taken)
+loop-less-2 : tie.Need-loop-less-2 Inv-loop μ-loop
+loop-less-2 c = omega (arith, c .before .before .before .before .before .before .before .before .before .before .before .before .before .before .loop-test .taken)
 
--- src/lib.rt:238:5
-loop-again : tie.Need-loop-again Inv-loop μ-loop
-loop-again c =
-    let a = c .before .before .before .before .before .before .before .before .before .before .before .before .before .before .before .before .before .before .before .before .before .before .args
-    in
+loop-again-2 : tie.Need-loop-again-2 Inv-loop μ-loop
+loop-again-2 c =
+    let a = c .before .before .before .before .before .before .before .before .before .before .before .before .before .before .before .before .before .before .before .before .before .before .args in
     let l = c .before .before .before .before .before .before .before .before .before .before .before .before .before .before .before .loop in
-    let t = c .before .before .before .before .before .before .before .before .before .before .read-pel in
+    let t = c .before .before .before .before .before .before .before .read-pel in
+    let v = t .result .pel in
+    let d = c .before .before .pel-told in
+    let y = c .before .pel-in-byte in
+    let j = c .before .before .before .if3 in
     let s = c .slide in
-    let m = c .before .before .before .match-two in
-    let j = c .before .before .before .before .before .before .if1 in
-    rw add-one
-    (read-turn (a .width) (pelsTo (a .above .now) (a .width)) (a .start .table .entries) (a .start .coder) (a .code .now) (a .start .at)
-    (a .start .good) (a .start .view) (l .row) (l .table .entries) (l .coder) (l .window) (l .view) (l .at) (l .good) (l .x) (l .inv)
-    (c .before .before .before .before .before .before .before .before .before .before .before .before .before .before .loop-test .taken)
-    (c .before .before .before .before .before .before .before .before .before .before .before .before .before .before .before .before .before .before .before .before .before .before .pre .0)
-    (pels-bits (a .above .now) (a .width)) (t .result) _ (c .before .before .before .before .before .before .before .before .before .pel-told .result)
-    (c .before .pel-in-byte .result) (j .table .entries) (s .result) _ (m .result) (pelled-table _ (l .table) (j .table) _ _ (t .result .pel)
-    (t .ensures .pelled) (λ z. z .left) (j .came))
-    (slid-context _ _ _ _ (l .inv .slid)) (t .ensures)
-    (c .before .before .before .before .before .before .before .before .before .pel-told .ensures .0) (c .before .pel-in-byte .ensures .0)
-    (s .ensures .0) (s .ensures .1) refl (m .ensures))
+    let m = c .before .before .before .before .before .before .before .before .before .if1 in
+    let above = pelsTo (a .above .now) (a .width) in
+    let cx = 4 * l .window .above + l .window .this in
+    let put : (j .table .entries ≡ set (l .table .entries) cx (v .entry)) × (j .at ≡ l .at + v .settled)
+    × (j .good ≡ (l .good && matches (a .code .now) (l .at) (bytesOf v)))
+    = ⊎-elim (λ w. (ap (λ (u : Table). u .entries) (w .3), w .4, w .5 ∙ w .1 .ensures))
+    (λ w. let k = pelled-kept (l .coder) (l .table .entries) [] cx (l .at) _ v (t .ensures .pelled) (w .0 .left) in (
+      ap (λ (u : Table). u .entries) (w .1) ∙ k .0,
+      w .2 ∙ k .2,
+      w .3 ∙ match-none (l .coder) _ _ v (a .code .now) (l .at) (l .good) (t .ensures .pelled) (w .0 .left),
+    )) (j .came) in
+    let reach : (m .end ≤ a .width) × Under above (l .x) (m .end)
+    = ⊎-elim (λ w. subst (λ (z : ℕ). (z ≤ a .width) × Under above (l .x) z) (sym (w .6)) (w .1 .ensures .1, w .1 .ensures .2))
+    (λ w. subst (λ (z : ℕ). (z ≤ a .width) × Under above (l .x) z) (sym (w .1)) (l .inv .1, l .inv .2)) (m .came) in
+    rw add-one (
+      read-turn (a .width) above (a .start .table .entries) (a .start .coder) (a .code .now) (a .start .at) (a .start .good) (a .start .view) (l .row)
+          (l .table .entries) (l .coder) (l .window) (l .view) (l .at) (l .good) (l .x) (l .inv .0) (c .before .before .before .before .before .before .before .before .before .before .before .before .before .before .loop-test .taken) (c .before .before .before .before .before .before .before .before .before .before .before .before .before .before .before .before .before .before .before .before .before .before .pre .0)
+          (pels-bits (a .above .now) (a .width)) (t .result) cx (d .result) (y .result) (j .table .entries) (s .result) (j .at) (j .good) (put .0)
+          (slid-context _ _ _ _ (l .inv .0 .slid)) (t .ensures) (d .ensures .0) (y .ensures .0) (s .ensures .0) (s .ensures .1) (put .1) (put .2),
+      reach .0,
+      under-part _ _ _ _ _ (omega arith) (omega arith) (reach .1),
+    )
 
 returns : tie.Need-returns Inv-loop μ-loop
 returns c =
-    line-read _ _ _ _ (c .before .before .before .before .before .before .before .before .pre .2) _ _ _ (omega (
-      arith,
-      c .before .loop .inv .passed,
-      c .loop-test .left,
-    )) (c .before .loop .inv)
+    line-read _ _ _ _ (c .before .before .before .before .before .before .before .before .pre .2) _ _ _ (omega (arith, c .before .loop .inv .0 .passed, c .loop-test .left)) (c .before .loop .inv .0)
 
 pub read-row-spec : {M : Type 1} → statement M
 read-row-spec =
@@ -218,18 +240,32 @@ read-row-spec =
     loop-holds
     mul-cx
     add-cx
+    element-copy-out-white
+    starts-run-requires
+    run-end-requires
+    row-of-requires
+    sub-fits
+    room-requires
+    fits-requires
+    mul-size
+    still-requires
+    still-requires-2
+    add-x
+    white-requires
+    loop-less
+    loop-again
     element-copy-out-e
     read-pel-requires
-    pel-told-requires
     element-write-table
     match-two-requires
     add-at
+    pel-told-requires
     array-read-row
     pel-in-byte-requires
     add-row
     array-write-row
     slide-requires
-    add-x
-    loop-less
-    loop-again
+    add-x-2
+    loop-less-2
+    loop-again-2
     returns)

@@ -1,0 +1,135 @@
+-- Expected pels with no shift, as the reader's loop meets them: one, and a white run of them at once. Assumes nothing.
+use mathlib.Core.Path.{_≡_, refl, sym, ap, _∙_, subst}
+use Prim.Native.Nat.{ℕ, zero, suc, _+_, _-_, _*_, _/_, _%_, _^_, _≤_, _<_}
+use native.Mathlib.Nat.{suc-mul, zero-mul, add-mul, mul-le-mul-right}
+use native.Mathlib.Omega.{arith}
+use mathlib.Core.Bool.{Bool, true, false, not, _&&_}
+use borrow.Author.Tests.{le-ltb}
+use mathlib.Core.List.{List}
+use lib.ListN.{getD, set, length}
+use lib.Seq.{set-getD}
+use Rattle.ground.specs.Tests.{if-ge}
+use Rattle.estimate.specs.Estimate.{rowOf}
+use Rattle.octets.specs.declared.Coder.{Coder}
+use Rattle.octets.specs.Runs.{stillBy, still-more, still-none}
+use Rattle.exact.specs.Sight.{Sight, nearer, supplied, seek, decide, above}
+use Rattle.template.specs.Pels.{pelsTo, context}
+use Rattle.template.specs.declared.Window.{Window}
+use Rattle.template.specs.Window.{Slid, slid-context}
+use Rattle.template.specs.White.{Under, whiteWindow, slid-white}
+use Rattle.band.specs.declared.Pel.{Pel}
+use Rattle.band.specs.Rows.{Pelled, bytesOf, stillPel, pelled-still, pelled-quiet}
+use Rattle.reader.specs.declared.View.{View}
+use Rattle.reader.specs.declared.Told.{Told}
+use Rattle.reader.specs.Views.{sightOf, ReadPel}
+use Rattle.reader.specs.ReadRow.{RowRead, matches, and-true, read-turn}
+
+-- ---- what is in sight after expected pels with no shift, whose sizes add up to n
+abbrev pub viewBy : ℕ → View → View
+viewBy n v = record { x = v .x - n * 2 ^ v .look; look = v .look; last = v .last; at = v .at }
+
+view-none : (v : View) → viewBy 0 v ≡ v
+view-none v = λ i. record { x = z (v .x) (2 ^ v .look) i; look = v .look; last = v .last; at = v .at }
+  where
+    z : (x p : ℕ) → x - 0 * p ≡ x
+    z x p = omega arith
+
+view-more : (m n s : ℕ) (v : View) → m + n ≡ s → viewBy n (viewBy m v) ≡ viewBy s v
+view-more m n s v e = λ i. record { x = z (v .x) (2 ^ v .look) i; look = v .look; last = v .last; at = v .at }
+  where
+    z : (x p : ℕ) → x - m * p - n * p ≡ x - s * p
+    z x p = let f : s * p ≡ (m + n) * p = ap (λ (k : ℕ). k * p) (sym e) in let g : (m + n) * p ≡ m * p + n * p = add-mul m n p in omega arith
+
+-- no byte is sought where the width stays 1000 hex or more
+seek-none : (n : ℕ) (r : Sight) → 4096 ≤ r .width → seek n r ≡ r
+unfolding seek
+seek-none zero r h = refl
+seek-none (suc n) r h = if-ge (r .width) 4096 (seek n (nearer (supplied r))) r h
+
+-- ---- one pel: what is in sight says that it is the expected one, and nothing is read
+abbrev pub stillTold : Coder → View → ℕ → Told
+stillTold c v e = record { expected = true; view = viewBy (rowOf e) v; pel = stillPel c e }
+
+pub told-still : (c : Coder) (v : View) (code : List ℕ) (e : ℕ) → 4096 + rowOf e ≤ c .interval .width → rowOf e * 2 ^ v .look ≤ v .x
+    → v .at ≤ length code → v .look ≤ 7 → v .x < 2 ^ 32 → ReadPel c v code e (stillTold c v e)
+unfolding decide
+told-still c v code e wide t a l s =
+    record {
+      asked = sym (ap not (le-ltb (v .x) (rowOf e * 2 ^ v .look) t));
+      pelled = pelled-still c e wide;
+      sight = sym (seek-none 12 (above (rowOf e) (sightOf v (c .interval .width) code)) (omega arith));
+      within = a;
+      near = l;
+      small = omega arith;
+    }
+
+-- nothing is compared after such a pel
+pub match-none : (c : Coder) (e : ℕ) (b : Bool) (u : Pel) (code : List ℕ) (at : ℕ) (good : Bool) → Pelled c e b u → u .moved ≡ false
+    → good ≡ (good && matches code at (bytesOf u))
+unfolding matches
+match-none c e b u code at good k z = sym (and-true good) ∙ ap (λ (bs : List ℕ). good && matches code at bs) (sym (pelled-quiet c e b u k z))
+
+-- what fits into the room is told
+pub told-so : (n q r p x : ℕ) → n * q ≤ r → r * p ≤ x → n * q * p ≤ x
+told-so n q r p x h k = omega (arith, mul-le-mul-right p h)
+
+-- ---- white pels in context 0, whose entry expects white: told as such by the code
+module _ (width : ℕ) (over t₀ : List ℕ) (c₀ : Coder) (code : List ℕ) (at₀ : ℕ) (good₀ : Bool) (v₀ : View) (row t : List ℕ) (at : ℕ) (good : Bool)
+    (white : getD t 0 0 % 2 ≡ 0) (b : (y : ℕ) → getD over y 0 ≤ 1) (narrow : width ≤ 2048) where
+  abbrev e : ℕ
+  e = getD t 0 0
+
+  abbrev q : ℕ
+  q = rowOf e
+
+  abbrev On : Coder → View → ℕ → Type 0
+  On c v x = RowRead width over t₀ c₀ code at₀ good₀ v₀ row t c (whiteWindow over x) v at good x
+
+  -- one of them: row, table, place and comparison stay
+  one : (c : Coder) (v : View) (x : ℕ) → On c v x → x < width → 4096 + q ≤ c .interval .width → q * 2 ^ v .look ≤ v .x → getD over (x + 2) 0 ≡ 0
+      → On (stillBy q c) (viewBy q v) (suc x)
+  unfolding matches
+  one c v x f h wide told a =
+      let cx : 0 ≡ context over (pelsTo row x) x = sym (omega (arith, a)) ∙ slid-context over (pelsTo row x) x (whiteWindow over x) (f .slid) in
+      let s : getD over (suc x + 2) 0 ≡ getD over (x + 3) 0 = ap (λ (k : ℕ). getD over k 0) (omega arith) in
+      let r : set row (x / 8) (getD row (x / 8) 0 + 0) ≡ row = ap (set row (x / 8)) (omega arith) ∙ set-getD row (x / 8) 0 in
+      subst (λ (l : List ℕ). RowRead width over t₀ c₀ code at₀ good₀ v₀ l t (stillBy q c) (whiteWindow over (suc x)) (viewBy q v) at good (suc x)) r
+      (read-turn width over t₀ c₀ code at₀ good₀ v₀ row t c (whiteWindow over x) v at good x f h narrow b (stillTold c v e) 0 0 0 t (whiteWindow over (suc x)) at
+      good (sym (set-getD t 0 0)) cx (told-still c v code e wide told (f .within) (f .near) (f .small)) (sym white) (sym (zero-mul (2 ^ (7 - x % 8))))
+      (omega (arith, b (x + 3))) (omega arith) (omega arith) (sym (and-true good)))
+
+  -- m of them are one step
+  pub read-run : (m : ℕ) (c : Coder) (v : View) (x : ℕ) → On c v x → x + m ≤ width → 4096 + m * q ≤ c .interval .width → m * q * 2 ^ v .look ≤ v .x
+      → ((i : ℕ) → i < m → getD over (x + i + 2) 0 ≡ 0) → On (stillBy (m * q) c) (viewBy (m * q) v) (x + m)
+  read-run zero c v x f h wide told a =
+      subst (λ (k : ℕ). On (stillBy (0 * q) c) (viewBy (0 * q) v) k) (z x)
+      (subst (λ (d : Coder). On d (viewBy (0 * q) v) x) (sym (still-none c) ∙ ap (λ (n : ℕ). stillBy n c) (sym (zero-mul q)))
+      (subst (λ (u : View). On c u x) (sym (view-none v) ∙ ap (λ (n : ℕ). viewBy n v) (sym (zero-mul q))) f))
+    where
+      z : (x : ℕ) → x ≡ x + 0
+      z x = omega arith
+  read-run (suc m) c v x f h wide told a =
+      let s : suc m * q ≡ m * q + q = suc-mul m q in
+      let p : suc m * q * 2 ^ v .look ≡ m * q * 2 ^ v .look + q * 2 ^ v .look = ap (λ (k : ℕ). k * 2 ^ v .look) s ∙ add-mul (m * q) q (2 ^ v .look) in
+      let x0 : x + 0 ≡ x = omega arith in
+      let a0 : getD over (x + 2) 0 ≡ 0 = ap (λ (k : ℕ). getD over (k + 2) 0) (sym x0) ∙ a 0 (omega arith) in
+      let g : On (stillBy q c) (viewBy q v) (suc x) = one c v x f (omega arith) (omega arith) (omega arith) a0 in
+      let n : On (stillBy (m * q) (stillBy q c)) (viewBy (m * q) (viewBy q v)) (suc x + m)
+      = read-run m (stillBy q c) (viewBy q v) (suc x) g (omega arith) (omega arith) (omega arith)
+      (λ i k. ap (λ (z : ℕ). getD over (z + 2) 0) (move x i) ∙ a (suc i) (omega arith)) in
+      subst (λ (k : ℕ). On (stillBy (suc m * q) c) (viewBy (suc m * q) v) k) (move x m)
+      (subst (λ (d : Coder). On d (viewBy (suc m * q) v) (suc x + m)) (still-more q (m * q) (suc m * q) c (omega arith))
+      (subst (λ (u : View). On (stillBy (m * q) (stillBy q c)) u (suc x + m)) (view-more q (m * q) (suc m * q) v (omega arith)) n))
+    where
+      move : (x m : ℕ) → suc x + m ≡ x + suc m
+      move x m = omega arith
+
+  -- as the code has it: n of the pels up to y, from a window that is white
+  pub read-jump : (c : Coder) (w : Window) (v : View) (x y n s : ℕ) → RowRead width over t₀ c₀ code at₀ good₀ v₀ row t c w v at good x
+      → 4 * w .above + w .this ≡ 0 → y ≤ width → Under over x y → x ≤ y → n ≤ y - x → s ≡ n * q → 4096 + s ≤ c .interval .width → s * 2 ^ v .look ≤ v .x
+      → On (stillBy s c) (viewBy s v) (x + n)
+  read-jump c w v x y n s f z k u l h e room told =
+      subst (λ (m : ℕ). On (stillBy m c) (viewBy m v) (x + n)) (sym e)
+      (read-run n c v x
+      (subst (λ (o : Window). RowRead width over t₀ c₀ code at₀ good₀ v₀ row t c o v at good x) (slid-white over (pelsTo row x) x w (f .slid) z) f)
+      (omega arith) (omega arith) (subst (λ (m : ℕ). m * 2 ^ v .look ≤ v .x) e told) (λ i j. u .pels (x + i) (omega arith) (omega arith)))
