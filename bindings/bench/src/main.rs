@@ -1,26 +1,32 @@
 //! Measures the library beside the plain model and, where the path of a shared
 //! library is given, beside that other build of it, all in one run, and writes
-//! the results as tables for docs/BENCHMARKS.md.
+//! the results as tables for docs/BENCHMARKS.md: whole pages, single bands, and
+//! the least of calls.
 //!
 //! A time is the best of many repetitions, in which all take turns; a ratio is
-//! the median of the repetitions' own ratios. Each repetition starts from a copy of the same desk, made before the clock
-//! starts. The lent buffers are the same ones throughout: nobody clears them,
-//! since an accepted call writes only their front.
+//! the median of the repetitions' own ratios. Each repetition starts from a
+//! copy of the same desk, made before the clock starts. The lent buffers are
+//! the same ones throughout: nobody clears them, since an accepted call writes
+//! only their front.
 
 mod other;
+mod page;
+mod sheet;
 mod side;
 
 use other::Other;
+use sheet::{Sheet, ROWS};
 use side::Side;
 use siftpebble_model::random::Random;
 use siftpebble_model::{sample, Direction};
 use std::time::Instant;
 
 const WIDTH: usize = 2048;
-const ROWS: usize = 64;
+const NARROW: usize = 48;
 const CLASS: u64 = 5;
 
 const REPETITIONS: usize = 300;
+const PAGE_REPETITIONS: usize = 25;
 const SMALL_CALLS: usize = 500;
 
 /// Who is measured: the library first.
@@ -72,6 +78,15 @@ fn median(mut values: Vec<f64>) -> f64 {
     values[values.len() / 2]
 }
 
+/// Two digits after the point, or three where the first two say little.
+fn short(number: f64) -> String {
+    if number < 0.1 {
+        format!("{number:.3}")
+    } else {
+        format!("{number:.2}")
+    }
+}
+
 impl Times {
     fn best(&self, side: usize) -> f64 {
         let times = self.0.iter().map(|turn| turn[side]);
@@ -86,18 +101,23 @@ impl Times {
 
     /// The cells of a table: times for one of so many equal things.
     fn cells(&self, count: usize) -> String {
-        let each = |side| self.best(side) / count as f64;
-        let others = (1..self.0[0].len())
-            .map(|side| format!(" {:.2} | {:.2} |", each(side), self.ratio(side)));
-        format!(" {:.2} |{}", each(0), others.collect::<String>())
+        let each = |side| short(self.best(side) / count as f64);
+        let ratio = |side| short(self.ratio(side));
+        let others =
+            (1..self.0[0].len()).map(|side| format!(" {} | {} |", each(side), ratio(side)));
+        format!(" {} |{}", each(0), others.collect::<String>())
     }
 }
 
 /// The sides take turns, so that whatever else slows the machine slows all;
 /// each comes first as often as the others.
-fn measure(desks: &[Box<dyn Side>], mut work: impl FnMut(&mut dyn Side)) -> Times {
+fn measure(
+    desks: &[Box<dyn Side>],
+    repetitions: usize,
+    mut work: impl FnMut(&mut dyn Side),
+) -> Times {
     let mut turns = Vec::new();
-    for repetition in 0..REPETITIONS {
+    for repetition in 0..repetitions {
         let mut turn = vec![0.0; desks.len()];
         for place in 0..desks.len() {
             let side = (repetition + place) % desks.len();
@@ -111,59 +131,96 @@ fn measure(desks: &[Box<dyn Side>], mut work: impl FnMut(&mut dyn Side)) -> Time
     Times(turns)
 }
 
-/// The same desks with a page open.
-fn opened(sides: &Sides, direction: Direction) -> Vec<Box<dyn Side>> {
+/// The same desks with a page of that width open.
+fn opened(sides: &Sides, direction: Direction, width: usize) -> Vec<Box<dyn Side>> {
     let mut desks = sides.copy();
     for desk in &mut desks {
-        desk.open(CLASS, direction, WIDTH as u64);
+        desk.open(CLASS, direction, width as u64);
     }
     desks
 }
 
-/// The code of a band, which all sides must give.
-fn code_of(sides: &Sides, pels: &[u8]) -> Vec<u8> {
-    let mut codes = opened(sides, Direction::Write).into_iter().map(|mut desk| {
-        let mut code = vec![0; 32_768];
-        let length = desk.write(CLASS, ROWS as u64, pels, &mut code);
-        code.truncate(length);
-        code
+/// The codes of a sheet's bands, which all sides must give.
+fn codes_of(sides: &Sides, sheet: &Sheet) -> Vec<Vec<u8>> {
+    let desks = opened(sides, Direction::Write, sheet.width);
+    let mut codes = desks.into_iter().map(|mut desk| {
+        let write = |(rows, pels): (u64, &[u8])| {
+            let mut code = vec![0; 32_768];
+            let length = desk.write(CLASS, rows, pels, &mut code);
+            code.truncate(length);
+            code
+        };
+        sheet.bands().map(write).collect::<Vec<_>>()
     });
     let first = codes.next().expect("the library");
     assert!(codes.all(|code| code == first), "the codes differ");
     first
 }
 
-/// Writes one band again and again.
-fn time_write(sides: &Sides, pels: &[u8]) -> Times {
+/// Writes a sheet again and again.
+fn time_write(sides: &Sides, sheet: &Sheet) -> Times {
     let mut code = vec![0; 32_768];
-    measure(&opened(sides, Direction::Write), |desk| {
-        desk.write(CLASS, ROWS as u64, pels, &mut code);
+    let desks = opened(sides, Direction::Write, sheet.width);
+    measure(&desks, sheet.repetitions, |desk| {
+        for (rows, pels) in sheet.bands() {
+            desk.write(CLASS, rows, pels, &mut code);
+        }
     })
 }
 
-/// Reads one band again and again.
-fn time_read(sides: &Sides, code: &[u8], pels: &[u8]) -> Times {
-    let mut rows = vec![0; pels.len()];
-    let desks = opened(sides, Direction::Read);
+/// Reads a sheet again and again.
+fn time_read(sides: &Sides, codes: &[Vec<u8>], sheet: &Sheet) -> Times {
+    let mut out = vec![0; sheet.band_bytes()];
+    let desks = opened(sides, Direction::Read, sheet.width);
     for mut desk in desks.iter().map(|desk| desk.copy()) {
-        rows.fill(0xA5);
-        desk.read(CLASS, ROWS as u64, code, &mut rows);
-        assert_eq!(rows, pels, "the rows differ");
+        for ((rows, pels), code) in sheet.bands().zip(codes) {
+            out.fill(0xA5);
+            desk.read(CLASS, rows, code, &mut out);
+            assert_eq!(&out[..pels.len()], pels, "the rows differ");
+        }
     }
-    measure(&desks, |desk| {
-        desk.read(CLASS, ROWS as u64, code, &mut rows)
+    measure(&desks, sheet.repetitions, |desk| {
+        for ((rows, _), code) in sheet.bands().zip(codes) {
+            desk.read(CLASS, rows, code, &mut out);
+        }
     })
 }
 
-fn bands() -> [(&'static str, Vec<u8>); 5] {
+/// A table with a line for each sheet: nanoseconds a pel.
+fn time_sheets(sides: &Sides, what: &str, sheets: &[Sheet]) {
+    let (write, read) = (sides.head("write: "), sides.head("read: "));
+    println!("| {what} | code bytes |{write}{read}");
+    println!("|---|---|{0}{0}", sides.rule());
+    for sheet in sheets {
+        let codes = codes_of(sides, sheet);
+        let write = time_write(sides, sheet).cells(sheet.pels());
+        let read = time_read(sides, &codes, sheet).cells(sheet.pels());
+        let bytes: usize = codes.iter().map(Vec::len).sum();
+        println!("| {} | {bytes} |{write}{read}", sheet.name);
+    }
+    println!();
+}
+
+/// Single bands of the greatest size, and too narrow for runs.
+fn bands() -> Vec<Sheet> {
     let mut random = Random::new(1);
-    [
-        ("white", sample::rows(WIDTH, ROWS, |_, _| false)),
-        ("ruled", sample::ruled(WIDTH, ROWS)),
-        ("random", sample::noise(&mut random, WIDTH, ROWS, 50)),
-        ("halftone", sample::halftone(WIDTH, ROWS)),
-        ("dots", sample::dots(&mut random, WIDTH, ROWS, 8)),
+    let band = |name, pels| Sheet::new(name, WIDTH, pels, REPETITIONS);
+    let narrow = |name, pels| Sheet::new(name, NARROW, pels, REPETITIONS);
+    vec![
+        band("white", sample::rows(WIDTH, ROWS, |_, _| false)),
+        band("ruled", sample::ruled(WIDTH, ROWS)),
+        band("random", sample::noise(&mut random, WIDTH, ROWS, 50)),
+        band("halftone", sample::halftone(WIDTH, ROWS)),
+        band("dots", sample::dots(&mut random, WIDTH, ROWS, 8)),
+        narrow("narrow, white", sample::rows(NARROW, ROWS, |_, _| false)),
+        narrow("narrow, dots", sample::dots(&mut random, NARROW, ROWS, 8)),
     ]
+}
+
+/// Whole pages.
+fn pages() -> Vec<Sheet> {
+    let sheet = |(name, pels)| Sheet::new(name, page::WIDTH, pels, PAGE_REPETITIONS);
+    page::all().into_iter().map(sheet).collect()
 }
 
 /// Full desks: four pages open, eight places taken, one page of width 1.
@@ -197,7 +254,7 @@ fn small_codes(sides: &Sides) -> Vec<[u8; 2]> {
 /// Writes bands of 1 x 1 on a full desk.
 fn time_small_writes(sides: &Sides) -> Times {
     let mut out = [0; 16];
-    measure(&full_desks(sides, Direction::Write), |desk| {
+    measure(&full_desks(sides, Direction::Write), REPETITIONS, |desk| {
         for _ in 0..SMALL_CALLS {
             desk.write(CLASS, 1, &[0], &mut out);
         }
@@ -208,7 +265,7 @@ fn time_small_writes(sides: &Sides) -> Times {
 fn time_small_reads(sides: &Sides) -> Times {
     let codes = small_codes(sides);
     let mut out = [0; 16];
-    measure(&full_desks(sides, Direction::Read), |desk| {
+    measure(&full_desks(sides, Direction::Read), REPETITIONS, |desk| {
         for code in &codes {
             desk.read(CLASS, 1, code, &mut out);
         }
@@ -218,19 +275,20 @@ fn time_small_reads(sides: &Sides) -> Times {
 fn main() {
     let other = std::env::args().nth(1);
     let sides = Sides::new(other.as_deref());
-    println!("ns a pel, bands of {WIDTH} x {ROWS} from a new page, best of {REPETITIONS},");
-    println!("and the median ratio; the lent buffers are not cleared between calls.");
+    println!(
+        "ns a pel, best time and median ratio; the lent buffers are not cleared between calls."
+    );
     println!();
-    let (write, read) = (sides.head("write: "), sides.head("read: "));
-    println!("| band | code bytes |{write}{read}");
-    println!("|---|---|{0}{0}", sides.rule());
-    for (name, pels) in bands() {
-        let code = code_of(&sides, &pels);
-        let write = time_write(&sides, &pels).cells(WIDTH * ROWS);
-        let read = time_read(&sides, &code, &pels).cells(WIDTH * ROWS);
-        println!("| {name} | {} |{write}{read}", code.len());
-    }
+    println!(
+        "Pages of {} x {} in bands of {ROWS} rows, {PAGE_REPETITIONS} repetitions:",
+        page::WIDTH,
+        page::HEIGHT
+    );
     println!();
+    time_sheets(&sides, "page", &pages());
+    println!("Bands of {WIDTH} x {ROWS} ({NARROW} x {ROWS} where narrow) from a new page, {REPETITIONS} repetitions:");
+    println!();
+    time_sheets(&sides, "band", &bands());
     println!("ns a call, a band of 1 x 1 on a full desk (4 pages, 8 places), best of");
     println!("{REPETITIONS} times {SMALL_CALLS} calls:");
     println!();

@@ -15,6 +15,7 @@ pub fn all() -> Vec<(&'static str, Vec<u8>)> {
         ("white", page(|_, _| false)),
         ("ruled", page(ruled)),
         ("squared", page(squared)),
+        ("worksheet", page(worksheet)),
         ("text", page(text)),
         ("form", page(form)),
         ("noisy scan", scanned(&mut Random::new(2))),
@@ -74,7 +75,7 @@ fn text(x: usize, y: usize) -> bool {
     }
     let (column, line) = ((x - margin) / CELL.0, (y - margin) / CELL.1);
     let end = 55 + scatter(line, 1) % 22;
-    if line % 8 == 7 || column >= end || scatter(line, column) % 6 == 0 {
+    if line % 8 == 7 || column >= end || scatter(line, column).is_multiple_of(6) {
         return false;
     }
     letter(
@@ -82,6 +83,21 @@ fn text(x: usize, y: usize) -> bool {
         (x - margin) % CELL.0,
         (y - margin) % CELL.1,
     )
+}
+
+/// A sheet to be filled in: a heading, then questions of one line, each with
+/// three lines to write on.
+fn worksheet(x: usize, y: usize) -> bool {
+    let margin = 150;
+    if x < margin || x >= WIDTH - margin || y < margin || y >= HEIGHT - margin {
+        return false;
+    }
+    let (column, line) = ((x - margin) / CELL.0, (y - margin) / CELL.1);
+    match line % 9 {
+        0 => text(x, y),
+        3 | 5 | 7 => column >= 2 && (y - margin) % CELL.1 < 2,
+        _ => false,
+    }
 }
 
 fn letter(which: usize, x: usize, y: usize) -> bool {

@@ -24,6 +24,9 @@ pub const MAX_CODE: usize = 32768;
 // The entry of index 19, whose Q is 71 hex. Below it runs are too short to be looked for.
 const LEARNED: u8 = 38;
 
+// The least width of eight bytes.
+const WIDE: usize = 57;
+
 // What a pel gives: the registers, its context's entry, whether it shifted, and the bytes settled, two at the most.
 pub struct Pel {
     pub coder: Coder,
@@ -98,8 +101,9 @@ pub fn put_pel(coder: Coder, e: u8, expected: bool) -> Pel
     moved_pel(v, estimate::next_entry(e, false))
 }
 
-// Whether a white run may begin: context 0, which expects white and has learned it so well that the next pels hardly shift.
-pub fn starts_run(white: u8, cx: usize, p: u8) -> bool
+// Whether a white run may begin: context 0, which expects white and has learned it so well that the next pels hardly shift, in a row that is
+// wide enough to be looked along.
+pub fn starts_run(white: u8, cx: usize, p: u8, width: usize) -> bool
     requires { ⌜ p ≤ 1 ⌝ }
     ensures { λ r. ⌜ (r ≡ true → (white % 2 ≡ 0) × (cx ≡ 0)) ⌝ }
 {
@@ -107,6 +111,9 @@ pub fn starts_run(white: u8, cx: usize, p: u8) -> bool
         return false;
     }
     if cx != 0 {
+        return false;
+    }
+    if width < WIDE {
         return false;
     }
     p + white % 2 == 0
@@ -138,7 +145,7 @@ pub fn write_row(row: &[u8], above: &[u8], width: usize, start: Run, out: &mut [
         let p = template::pel_at(row, x);
         let cx = 4 * window.above + window.this;
         let white = table.entries[0];
-        if starts_run(white, cx, p) {
+        if starts_run(white, cx, p, width) {
             end = run_end(row, above, width, x, end);
             let q = estimate::row_of(white);
             let n = interval::fits(end - x, q, coder.interval.width - 0x1000);

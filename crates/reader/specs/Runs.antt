@@ -48,7 +48,7 @@ seek-none (suc n) r h = if-ge (r .width) 4096 (seek n (nearer (supplied r))) r h
 
 -- ---- one pel: what is in sight says that it is the expected one, and nothing is read
 abbrev pub stillTold : Coder → View → ℕ → Told
-stillTold c v e = record { expected = true; view = viewBy (rowOf e) v; pel = stillPel c e }
+stillTold c v e = record { expected = true; p = e % 2; view = viewBy (rowOf e) v; pel = stillPel c e }
 
 pub told-still : (c : Coder) (v : View) (code : List ℕ) (e : ℕ) → 4096 + rowOf e ≤ c .interval .width → rowOf e * 2 ^ v .look ≤ v .x
     → v .at ≤ length code → v .look ≤ 7 → v .x < 2 ^ 32 → ReadPel c v code e (stillTold c v e)
@@ -56,6 +56,7 @@ unfolding decide
 told-still c v code e wide t a l s =
     record {
       asked = sym (ap not (le-ltb (v .x) (rowOf e * 2 ^ v .look) t));
+      told = refl;
       pelled = pelled-still c e wide;
       sight = sym (seek-none 12 (above (rowOf e) (sightOf v (c .interval .width) code)) (omega arith));
       within = a;

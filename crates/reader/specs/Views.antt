@@ -1,5 +1,5 @@
 -- What the reader's code sees, as the laws' Sight; and k shifts at once: bytes are read until they reach that far. Assumes nothing.
-use mathlib.Core.Path.{_≡_, refl, sym, ap, ap₂, _∙_, subst}
+use mathlib.Core.Path.{_≡_, refl, sym, ap, _∙_, subst}
 use mathlib.Core.Logic.{_≢_}
 use Prim.Native.Nat.{ℕ, zero, suc, _+_, _-_, _*_, _%_, _^_, _≤_, _<_}
 use native.Mathlib.Nat.{mul-one, sub-zero, pow-succ', mul-le-mul}
@@ -16,6 +16,7 @@ use Rattle.interval.specs.Interval.{decision, partOf, doubled, grown, doublings
 use Rattle.octets.specs.Octets.{Registers, bits, shifts, due, double, part, pel}
 use Rattle.octets.specs.Fit.{bits-few, due-width}
 use Rattle.exact.specs.Sight.{Sight, opened, more, nearer, supplied, seek, decide, taken}
+use Rattle.coder.specs.Reading.{pelOf, pelOf-bit}
 use Rattle.estimate.specs.Estimate.{rowOf}
 use Rattle.estimate.specs.Laws.{row-sized}
 use Rattle.octets.specs.declared.Coder.{Coder}
@@ -136,11 +137,15 @@ view-start a b at at′ n p code ea da eb db en ep =
 -- ---- one pel read: the decision, the writer's pel, and the view after it
 pub record ReadPel (c : Coder) (v : View) (code : List ℕ) (e : ℕ) (t : Told) : Type 0 where
   pub asked : t .expected ≡ decide (rowOf e) (sightOf v (c .interval .width) code)
+  pub told : t .p ≡ pelOf (e % 2) (t .expected)
   pub pelled : Pelled c e (t .expected) (t .pel)
   pub sight : sightOf (t .view) (t .pel .coder .interval .width) code ≡ seek 12 (taken (rowOf e) (t .expected) (sightOf v (c .interval .width) code))
   pub within : t .view .at ≤ length code
   pub near : t .view .look ≤ 7
   pub small : t .view .x < 2 ^ 32
+
+pub told-bit : (c : Coder) (v : View) (code : List ℕ) (e : ℕ) (t : Told) → ReadPel c v code e t → t .p ≤ 1
+told-bit c v code e t k = subst (λ (z : ℕ). z ≤ 1) (sym (k .told)) (pelOf-bit (e % 2) (t .expected) (omega arith))
 
 -- the lower part of what is in sight
 pub part-small : (e l q p : ℕ) → q ≡ rowOf e → p ≡ 2 ^ l → l ≤ 7 → q * p ≤ 352384
@@ -149,18 +154,18 @@ part-small e l q p a b h =
     omega (arith, mul-le-mul {n₁ = q} {m₁ = p} {n₂ = 2753} {m₂ = 128} (omega (arith, row-sized e .small)) (omega arith))
 
 -- from what the parts of the code say
-module _ (c : Coder) (v : View) (code : List ℕ) (e : ℕ) (b : Bool) (u : Pel) (v₁ v₂ : View) (k : ℕ) where
+module _ (c : Coder) (v : View) (code : List ℕ) (e : ℕ) (b : Bool) (o : ℕ) (u : Pel) (v₁ v₂ : View) (k : ℕ) where
   abbrev seen : Sight
   seen = sightOf v (c .interval .width) code
 
   abbrev part′ : Sight
   part′ = taken (rowOf e) b seen
 
-  pub told : decide (rowOf e) seen ≡ b → Pelled c e b u → part′ ≡ sightOf v₁ (part′ .width) code
+  pub told-moved : decide (rowOf e) seen ≡ b → o ≡ pelOf (e % 2) b → Pelled c e b u → part′ ≡ sightOf v₁ (part′ .width) code
       → k ≡ doublings 12 (partOf (decision (rowOf e) b) (c .interval) .width)
       → ((w : ℕ) → sightOf v₂ (w * 2 ^ k) code ≡ seeks k (sightOf v₁ w code)) → v₂ .at ≤ length code → v₂ .look ≤ 7 → v₂ .x < 2 ^ 32
-      → ReadPel c v code e (record { expected = b; view = v₂; pel = u })
-  told d p t n a x y z =
+      → ReadPel c v code e (record { expected = b; p = o; view = v₂; pel = u })
+  told-moved d f p t n a x y z =
       let m : doublings 12 (part′ .width) ≡ k = ap (doublings 12) (taken-width (rowOf e) b seen (c .interval) refl) ∙ sym n in
       let s : seek 12 part′ ≡ sightOf v₂ (part′ .width * 2 ^ k) code
       = seek-seeks 12 part′ ∙ ap (λ (j : ℕ). seeks j part′) m ∙ ap (seeks k) t ∙ sym (a (part′ .width)) in
@@ -168,6 +173,7 @@ module _ (c : Coder) (v : View) (code : List ℕ) (e : ℕ) (b : Bool) (u : Pel)
       = ap (λ (r : Sight). r .width) (sym s) ∙ same-width (rowOf e) b seen (lift c []) refl ∙ ap (λ (r : Registers). r .interval .width) (p .registers) in
       record {
         asked = sym d;
+        told = f;
         pelled = p;
         sight = sym (subst (λ (j : ℕ). seek 12 part′ ≡ sightOf v₂ j code) w s);
         within = x;

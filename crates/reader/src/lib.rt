@@ -39,9 +39,10 @@ pub struct Fetched {
     pub at: usize,
 }
 
-// What a pel gives: whether it was the expected one, what is in sight then, and what the writer gives.
+// What a pel gives: whether it was the expected one, the pel itself, what is in sight then, and what the writer gives.
 pub struct Told {
     pub expected: bool,
+    pub p: u8,
     pub view: View,
     pub pel: Pel,
 }
@@ -150,6 +151,16 @@ impl View {
     }
 }
 
+// The pel that is the expected one, or the other.
+pub fn pel_told(e: u8, expected: bool) -> u8
+    ensures { λ r. ⌜ (r ≡ pelOf (e % 2) expected) × (r ≤ 1) ⌝ }
+{
+    if expected {
+        return e % 2;
+    }
+    1 - e % 2
+}
+
 // One pel: the code tells it, and the writer codes it.
 pub fn read_pel(coder: Coder, view: View, code: &[u8], e: u8) -> Told
     requires { ⌜ Ready (lift coder []) × LawfulEntry e × (coder .interval .count < 2 ^ 32) × (view .at ≤ length (now code)) × (view .look ≤ 7) × (view .x < 2 ^ 32) ⌝ }
@@ -163,6 +174,7 @@ pub fn read_pel(coder: Coder, view: View, code: &[u8], e: u8) -> Told
             let pel = band::still_pel(coder, e, q);
             return Told {
                 expected: true,
+                p: pel_told(e, true),
                 view: rest,
                 pel: pel,
             };
@@ -172,6 +184,7 @@ pub fn read_pel(coder: Coder, view: View, code: &[u8], e: u8) -> Told
         let pel = band::moved_pel(v, estimate::next_entry(e, true));
         return Told {
             expected: true,
+            p: pel_told(e, true),
             view: next,
             pel: pel,
         };
@@ -181,6 +194,7 @@ pub fn read_pel(coder: Coder, view: View, code: &[u8], e: u8) -> Told
     let pel = band::moved_pel(v, estimate::next_entry(e, false));
     Told {
         expected: false,
+        p: pel_told(e, false),
         view: next,
         pel: pel,
     }
@@ -235,16 +249,6 @@ pub fn match_two(code: &[u8], at: usize, n: usize, first: u8, second: u8, good: 
     false
 }
 
-// The pel that is the expected one, or the other.
-pub fn pel_told(e: u8, expected: bool) -> u8
-    ensures { λ r. ⌜ (r ≡ pelOf (e % 2) expected) × (r ≤ 1) ⌝ }
-{
-    if expected {
-        return e % 2;
-    }
-    1 - e % 2
-}
-
 // A pel at its place in a byte.
 pub fn pel_in_byte(p: u8, x: usize) -> u8
     requires { ⌜ p ≤ 1 ⌝ }
@@ -281,7 +285,7 @@ pub fn read_row(code: &[u8], above: &[u8], width: usize, start: Reading) -> Line
     while x < width {
         let cx = 4 * window.above + window.this;
         let white = table.entries[0];
-        if band::starts_run(white, cx, 0) {
+        if band::starts_run(white, cx, 0, width) {
             end = run_end(above, width, x, end);
             let q = estimate::row_of(white);
             let n = interval::fits(end - x, q, view.room(coder.interval.width));
@@ -296,6 +300,7 @@ pub fn read_row(code: &[u8], above: &[u8], width: usize, start: Reading) -> Line
         }
         let e = table.entries[cx];
         let told = read_pel(coder, view, code, e);
+        let p = told.p;
         let v = told.pel;
         coder = v.coder;
         view = told.view;
@@ -304,9 +309,9 @@ pub fn read_row(code: &[u8], above: &[u8], width: usize, start: Reading) -> Line
             good = match_two(code, at, v.settled, v.first, v.second, good);
             at = at + v.settled;
         }
-        let p = pel_told(e, told.expected);
-        row[x / 8] = row[x / 8] + pel_in_byte(p, x);
         window = window.slide(above, width, x, p);
+        let j = x / 8;
+        row[j] = row[j] + pel_in_byte(p, x);
         x += 1;
     }
     Line {

@@ -18,6 +18,7 @@ use Rattle.template.specs.White.{Under, under-none, under-part}
 use Rattle.template.specs.Window.{pels-bits, slid-context}
 use Rattle.template.specs.Packing.{row-none}
 use Rattle.band.specs.Rows.{bytesOf, pelled-kept}
+use Rattle.reader.specs.Views.{told-bit}
 use Rattle.reader.specs.ReadRow.{RowRead, matches, read-start, read-turn, read-window, read-room}
 use Rattle.reader.specs.Runs.{told-so, match-none, read-jump}
 use Rattle.reader.specs.Lines.{line-read}
@@ -159,51 +160,47 @@ add-at c =
     let p = c .before .before .before .before .before .before .before .before .before .before .before .before .before .before .before .before .before .before .before .before .before .pre in
     omega (arith, i .place, i .few, i .passed, p .0, p .6, c .before .before .before .before .before .before .read-pel .ensures .pelled .few)
 
-pel-told-requires : tie.Need-pel-told-requires Inv-loop μ-loop
-pel-told-requires c κs = tt
+slide-requires : tie.Need-slide-requires Inv-loop μ-loop
+slide-requires c κs =
+    let a = c .before .before .before .before .before .before .before .before .before .before .before .before .before .before .before .before .before .before .before .args in
+    let l = c .before .before .before .before .before .before .before .before .before .before .before .before .loop in
+    let p = c .before .before .before .before .before .before .before .before .before .before .before .before .before .before .before .before .before .before .before .pre in
+    let w = read-window _ _ _ _ _ _ _ _ _ _ _ _ _ _ _ _ (pels-bits (a .above .now) (a .width)) (l .inv .0) in
+    (p .1, omega (arith, c .before .before .before .before .before .before .before .before .before .before .before .loop-test .taken, p .0), told-bit _ _ _ _ _ (c .before .before .before .before .read-pel .ensures), w .0, w .1)
 
 array-read-row : tie.Need-array-read-row Inv-loop μ-loop
 array-read-row c = omega (arith, c .before .before .before .before .before .before .before .before .before .before .before .before .loop-test .taken, c .before .before .before .before .before .before .before .before .before .before .before .before .before .before .before .before .before .before .before .before .pre .0)
 
 pel-in-byte-requires : tie.Need-pel-in-byte-requires Inv-loop μ-loop
-pel-in-byte-requires c κs = c .pel-told .ensures .1
+pel-in-byte-requires c κs = told-bit _ _ _ _ _ (c .before .before .before .before .before .read-pel .ensures)
 
 add-row : tie.Need-add-row Inv-loop μ-loop
 add-row c =
     let l = c .before .before .before .before .before .before .before .before .before .before .before .before .before .before .loop in
-    let t = c .before .pel-told in
-    let h = read-room _ _ _ _ _ _ _ _ (l .row) (l .table .entries) (l .coder) (l .window) (l .view) (l .at) (l .good) (l .x) (t .result) (l .inv .0)
-    (omega (arith, c .before .before .before .before .before .before .before .before .before .before .before .before .before .loop-test .taken, c .before .before .before .before .before .before .before .before .before .before .before .before .before .before .before .before .before .before .before .before .before .pre .0)) (t .ensures .1) in
+    let t = c .before .before .before .before .before .before .read-pel in
+    let h = read-room _ _ _ _ _ _ _ _ (l .row) (l .table .entries) (l .coder) (l .window) (l .view) (l .at) (l .good) (l .x) (t .result .p) (l .inv .0)
+    (omega (arith, c .before .before .before .before .before .before .before .before .before .before .before .before .before .loop-test .taken, c .before .before .before .before .before .before .before .before .before .before .before .before .before .before .before .before .before .before .before .before .before .pre .0)) (told-bit _ _ _ _ _ (t .ensures)) in
     omega (arith, c .pel-in-byte .ensures .0, h)
 
 array-write-row : tie.Need-array-write-row Inv-loop μ-loop
 array-write-row c = omega (arith, c .before .before .before .before .before .before .before .before .before .before .before .before .before .loop-test .taken, c .before .before .before .before .before .before .before .before .before .before .before .before .before .before .before .before .before .before .before .before .before .pre .0)
 
-slide-requires : tie.Need-slide-requires Inv-loop μ-loop
-slide-requires c κs =
-    let a = c .before .before .before .before .before .before .before .before .before .before .before .before .before .before .before .before .before .before .before .before .before .args in
-    let l = c .before .before .before .before .before .before .before .before .before .before .before .before .before .before .loop in
-    let p = c .before .before .before .before .before .before .before .before .before .before .before .before .before .before .before .before .before .before .before .before .before .pre in
-    let w = read-window _ _ _ _ _ _ _ _ _ _ _ _ _ _ _ _ (pels-bits (a .above .now) (a .width)) (l .inv .0) in
-    (p .1, omega (arith, c .before .before .before .before .before .before .before .before .before .before .before .before .before .loop-test .taken, p .0), c .before .pel-told .ensures .1, w .0, w .1)
-
 add-x-2 : tie.Need-add-x-2 Inv-loop μ-loop
-add-x-2 c = omega (arith, c .before .before .before .before .before .before .before .before .before .before .before .before .before .before .loop-test .taken, c .before .before .before .before .before .before .before .before .before .before .before .before .before .before .before .before .before .before .before .before .before .before .pre .0)
+add-x-2 c = omega (arith, c .before .before .before .before .before .before .before .before .before .before .before .before .before .loop-test .taken, c .before .before .before .before .before .before .before .before .before .before .before .before .before .before .before .before .before .before .before .before .before .pre .0)
 
 loop-less-2 : tie.Need-loop-less-2 Inv-loop μ-loop
-loop-less-2 c = omega (arith, c .before .before .before .before .before .before .before .before .before .before .before .before .before .before .loop-test .taken)
+loop-less-2 c = omega (arith, c .before .before .before .before .before .before .before .before .before .before .before .before .before .loop-test .taken)
 
 loop-again-2 : tie.Need-loop-again-2 Inv-loop μ-loop
 loop-again-2 c =
-    let a = c .before .before .before .before .before .before .before .before .before .before .before .before .before .before .before .before .before .before .before .before .before .before .args in
-    let l = c .before .before .before .before .before .before .before .before .before .before .before .before .before .before .before .loop in
-    let t = c .before .before .before .before .before .before .before .read-pel in
+    let a = c .before .before .before .before .before .before .before .before .before .before .before .before .before .before .before .before .before .before .before .before .before .args in
+    let l = c .before .before .before .before .before .before .before .before .before .before .before .before .before .before .loop in
+    let t = c .before .before .before .before .before .before .read-pel in
     let v = t .result .pel in
-    let d = c .before .before .pel-told in
-    let y = c .before .pel-in-byte in
-    let j = c .before .before .before .if3 in
-    let s = c .slide in
-    let m = c .before .before .before .before .before .before .before .before .before .if1 in
+    let y = c .pel-in-byte in
+    let j = c .before .before .if3 in
+    let s = c .before .slide in
+    let m = c .before .before .before .before .before .before .before .before .if1 in
     let above = pelsTo (a .above .now) (a .width) in
     let cx = 4 * l .window .above + l .window .this in
     let put : (j .table .entries ≡ set (l .table .entries) cx (v .entry)) × (j .at ≡ l .at + v .settled)
@@ -219,9 +216,9 @@ loop-again-2 c =
     (λ w. subst (λ (z : ℕ). (z ≤ a .width) × Under above (l .x) z) (sym (w .1)) (l .inv .1, l .inv .2)) (m .came) in
     rw add-one (
       read-turn (a .width) above (a .start .table .entries) (a .start .coder) (a .code .now) (a .start .at) (a .start .good) (a .start .view) (l .row)
-          (l .table .entries) (l .coder) (l .window) (l .view) (l .at) (l .good) (l .x) (l .inv .0) (c .before .before .before .before .before .before .before .before .before .before .before .before .before .before .loop-test .taken) (c .before .before .before .before .before .before .before .before .before .before .before .before .before .before .before .before .before .before .before .before .before .before .pre .0)
-          (pels-bits (a .above .now) (a .width)) (t .result) cx (d .result) (y .result) (j .table .entries) (s .result) (j .at) (j .good) (put .0)
-          (slid-context _ _ _ _ (l .inv .0 .slid)) (t .ensures) (d .ensures .0) (y .ensures .0) (s .ensures .0) (s .ensures .1) (put .1) (put .2),
+          (l .table .entries) (l .coder) (l .window) (l .view) (l .at) (l .good) (l .x) (l .inv .0) (c .before .before .before .before .before .before .before .before .before .before .before .before .before .loop-test .taken) (c .before .before .before .before .before .before .before .before .before .before .before .before .before .before .before .before .before .before .before .before .before .pre .0)
+          (pels-bits (a .above .now) (a .width)) (t .result) cx (t .result .p) (y .result) (j .table .entries) (s .result) (j .at) (j .good) (put .0)
+          (slid-context _ _ _ _ (l .inv .0 .slid)) (t .ensures) (t .ensures .told) (y .ensures .0) (s .ensures .0) (s .ensures .1) (put .1) (put .2),
       reach .0,
       under-part _ _ _ _ _ (omega arith) (omega arith) (reach .1),
     )
@@ -259,12 +256,11 @@ read-row-spec =
     element-write-table
     match-two-requires
     add-at
-    pel-told-requires
+    slide-requires
     array-read-row
     pel-in-byte-requires
     add-row
     array-write-row
-    slide-requires
     add-x-2
     loop-less-2
     loop-again-2
