@@ -24,8 +24,8 @@ pub const MAX_CODE: usize = 32768;
 // The entry of index 19, whose Q is 71 hex. Below it runs are too short to be looked for.
 const LEARNED: u8 = 38;
 
-// The least width of eight bytes.
-const WIDE: usize = 57;
+// Two bytes are no wide row: a look along them costs what it saves.
+const WIDE: usize = 17;
 
 // What a pel gives: the registers, its context's entry, whether it shifted, and the bytes settled, two at the most.
 pub struct Pel {

@@ -8,7 +8,7 @@ use native.Mathlib.Omega.{arith}
 use mathlib.Core.List.{List}
 use lib.Bits.{bitAnd, bitOr, and-mask, or-shifted}
 use lib.Count.{leadingZeros, leading-length}
-use lib.ListN.{getD}
+use lib.ListN.{getD, length, List·getD-eq-default}
 use lib.Pow.{pow-pos, pow-mono, pow-add, shl-exact, shr-shr, high, low, field, mod-mod-pow, ones-split, ones-lt}
 use Rattle.template.specs.Pels.{pelAt}
 
@@ -73,6 +73,15 @@ module _ (row : List ℕ) (k n w b : ℕ) (f : Word row k n w) (is : b ≡ getD 
 pub word-join : (row : List ℕ) (k n w b : ℕ) → Word row k n w → n < 8 → b ≡ getD row (k + n) 0 → b ≤ 255 → Word row k (n + 1) (bitOr (w * 2 ^ 8 % 2 ^ 64) b)
 word-join row k n w b f h e o =
     rw (add-one, shl-exact {a = w} (8 * n) 8 64 (f .small) (omega arith), or-shifted w 8 b (omega arith)) (word-next row k n w b f e o)
+
+-- past the row's end a byte is 0
+pub word-past : (row : List ℕ) (k n w : ℕ) → Word row k n w → n < 8 → length row ≤ k + n → Word row k (n + 1) (w * 2 ^ 8 % 2 ^ 64)
+word-past row k n w f h p =
+    rw (add-one, shl-exact {a = w} (8 * n) 8 64 (f .small) (omega arith))
+    (subst (Word row k (suc n)) none (word-next row k n w 0 f (sym (List·getD-eq-default row 0 {n = k + n} p)) (omega arith)))
+  where
+    none : w * 2 ^ 8 + 0 ≡ w * 2 ^ 8
+    none = omega arith
 
 -- ---- the number without its first o pels
 pub mask-is : (o : ℕ) → o ≤ 64 → 18446744073709551615 / 2 ^ o ≡ 2 ^ (64 - o) - 1

@@ -88,24 +88,56 @@ fn word_at(row: &[u8], k: usize) -> u64
     join(row, k, 7, seven)
 }
 
-// Where the white pels from y on end, within the eight bytes from k on.
-fn white_in(row: &[u8], k: usize, y: usize) -> usize
-    requires { ⌜ (k + 8 ≤ length (now row)) × (k ≤ 65535) × (8 * k ≤ y) × (y < 8 * k + 64) ⌝ }
+// The same at the end of a row, where a byte may be missing: it counts as 0.
+fn join_any(row: &[u8], k: usize, n: usize, w: u64) -> u64
+    requires { ⌜ (k ≤ 65535) × (n < 8) × Word (now row) k n w ⌝ }
+    ensures { λ r. ⌜ Word (now (row .entry)) k (n + 1) r ⌝ }
+{
+    if k + n < row.len() {
+        return join(row, k, n, w);
+    }
+    w << 8
+}
+
+// The first eight bytes of a row that may have less.
+fn short_word(row: &[u8]) -> u64
+    ensures { λ r. ⌜ Word (now (row .entry)) 0 8 r ⌝ }
+{
+    let one = join_any(row, 0, 0, 0);
+    let two = join_any(row, 0, 1, one);
+    let three = join_any(row, 0, 2, two);
+    let four = join_any(row, 0, 3, three);
+    let five = join_any(row, 0, 4, four);
+    let six = join_any(row, 0, 5, five);
+    let seven = join_any(row, 0, 6, six);
+    join_any(row, 0, 7, seven)
+}
+
+// Where the white pels from y on end, within the eight bytes from k on, which are w.
+fn white_of(row: &[u8], k: usize, w: u64, y: usize) -> usize
+    requires { ⌜ Word (now row) k 8 w × (k ≤ 65535) × (8 * k ≤ y) × (y < 8 * k + 64) ⌝ }
     ensures { λ r. ⌜ (y ≤ r) × (r ≤ 8 * k + 64) × White (now (row .entry)) y r ⌝ }
 {
-    let w = word_at(row, k);
     let mask = 0xFFFFFFFFFFFFFFFFu64 >> (y - 8 * k);
     let zeros = u64::leading_zeros(w & mask) as usize;
     8 * k + zeros
 }
 
-// Where the white pels from x on end, in a row of so many bytes; a row of less than eight is not looked at.
+// The same, the bytes read here.
+fn white_in(row: &[u8], k: usize, y: usize) -> usize
+    requires { ⌜ (k + 8 ≤ length (now row)) × (k ≤ 65535) × (8 * k ≤ y) × (y < 8 * k + 64) ⌝ }
+    ensures { λ r. ⌜ (y ≤ r) × (r ≤ 8 * k + 64) × White (now (row .entry)) y r ⌝ }
+{
+    white_of(row, k, word_at(row, k), y)
+}
+
+// Where the white pels from x on end, in a row of so many bytes.
 pub fn white_to(row: &[u8], bytes: usize, x: usize) -> usize
     requires { ⌜ (bytes ≤ length (now row)) × (bytes ≤ 8192) × (x < 8 * bytes) ⌝ }
     ensures { λ r. ⌜ (x ≤ r) × White (now (row .entry)) x r ⌝ }
 {
     if bytes < 8 {
-        return x;
+        return white_of(row, 0, short_word(row), x);
     }
     let last = bytes - 8;
     let mut k = if x / 8 < last { x / 8 } else { last };

@@ -4,7 +4,7 @@ use mathlib.Core.Logic.{_⊎_, inl, inr}
 use Prim.Native.Nat.{ℕ, _+_, _-_, _*_, _/_, _≤_, _<_}
 use native.Mathlib.Omega.{arith}
 use borrow.Author.Needs.{needs}
-use Rattle.template.specs.White.{White, white-none, white-more, white-part}
+use Rattle.template.specs.White.{White, white-more, white-part}
 use Rattle.template.proofs.white_to.Statement.{statement}
 use Rattle.template.proofs.white_to.Tie as tie
 
@@ -20,8 +20,11 @@ Inv-loop row bytes x last k₀ y₀ k y = (k ≤ last) × (x ≤ y) × (y ≤ 8 
 abbrev μ-loop : tie.MeasureT-loop
 μ-loop row bytes x last k₀ y₀ k y = last - k
 
+white-of-requires : tie.Need-white-of-requires Inv-loop μ-loop
+white-of-requires c κs = (c .short-word .ensures, omega arith, omega arith, omega arith)
+
 returns : tie.Need-returns Inv-loop μ-loop
-returns c = (omega arith, white-none _ _ _ (omega arith))
+returns c = (c .white-of .ensures .0, c .white-of .ensures .2)
 
 white-in-requires : tie.Need-white-in-requires Inv-loop μ-loop
 white-in-requires c κs =
@@ -91,6 +94,8 @@ white-to-spec =
     (tie.spec
     Inv-loop
     μ-loop
+    (λ c κs. tt)
+    white-of-requires
     returns
     white-in-requires
     loop-holds
