@@ -55,6 +55,19 @@ pub fn dots(random: &mut Random, width: usize, height: usize, cell: usize) -> Ve
     })
 }
 
+/// White rows but for a few pels at any places, one of them often the last.
+pub fn sparse(random: &mut Random, width: usize, height: usize) -> Vec<u8> {
+    let mut black = vec![vec![false; width]; height];
+    for row in &mut black {
+        for _ in 0..random.below(4) {
+            let any = random.below(width);
+            let place = random.pick(&[any, any, width - 1]);
+            row[place] = true;
+        }
+    }
+    rows(width, height, |x, y| black[y][x])
+}
+
 /// A lawful table: like a young class's, like an old one's, or anything.
 pub fn table(random: &mut Random) -> Table {
     let (low, high) = random.pick(&[(0, 1), (0, 8), (0, ENTRIES), (44, ENTRIES), (58, ENTRIES)]);

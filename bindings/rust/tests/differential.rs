@@ -9,7 +9,7 @@ mod common;
 use common::layout::{desk_image, desk_of, Image};
 use common::library::Library;
 use common::setting;
-use siftpebble_model::band::{self, MAX_CODE, MAX_ROWS, MAX_WIDTH};
+use siftpebble_model::band::{self, row_bytes, MAX_CODE, MAX_ROWS, MAX_WIDTH};
 use siftpebble_model::call::{Act, Answer, Call, Outcome, Serve};
 use siftpebble_model::coder::Watch;
 use siftpebble_model::random::Random;
@@ -204,31 +204,57 @@ fn call_from(desk: &Desk, act: Act, report: &mut Report) {
     compare(&mut desk.clone(), &mut library, &call, report);
 }
 
-/// Large bands: written, read back, and read from spoiled codes.
+/// A band on a desk with one open page: written, read back, and read from
+/// spoiled codes.
+fn both_ways(random: &mut Random, desk: Desk, pels: Vec<u8>, report: &mut Report) {
+    let page = desk.page(KEY).expect("an open page");
+    let width = page.width as usize;
+    let mut code = vec![0; MAX_CODE];
+    let band = band::write(&mut page.state.clone(), width, &pels, &mut code, ());
+    code.truncate(band.expect("room").length);
+
+    let (rows, room) = ((pels.len() / row_bytes(width)) as u64, pels.len());
+    let lent = random.bytes(code.len());
+    let write = Act::Write { rows, pels, lent };
+    call_from(&desk, write, report);
+    let desk = to_be_read(desk);
+    let spoiled = [0; 3].map(|_| sample::spoiled(random, &code));
+    for code in spoiled.into_iter().chain([code]) {
+        let more = random.below(9);
+        let lent = random.bytes(room + more);
+        call_from(&desk, Act::Read { rows, code, lent }, report);
+    }
+}
+
+/// Large bands of every kind.
 fn large_bands(seed: u64, times: u64, report: &mut Report) {
     let mut random = Random::new(seed);
     for _ in 0..150 * times {
         let width = random.between(MAX_WIDTH / 2, MAX_WIDTH);
         let rows = random.between(MAX_ROWS / 2, MAX_ROWS);
         let desk = one_page(&mut random, width);
-        let state = desk.page(KEY).map(|page| page.state.clone());
-        let state = state.expect("an open page");
-        let pels = sample::band(&mut random, &state, width, rows);
-        let mut code = vec![0; MAX_CODE];
-        let band = band::write(&mut state.clone(), width, &pels, &mut code, ());
-        code.truncate(band.expect("room").length);
+        let state = &desk.page(KEY).expect("an open page").state;
+        let pels = sample::band(&mut random, state, width, rows);
+        both_ways(&mut random, desk, pels, report);
+    }
+}
 
-        let (rows, room) = (rows as u64, pels.len());
-        let lent = random.bytes(code.len());
-        let write = Act::Write { rows, pels, lent };
-        call_from(&desk, write, report);
-        let desk = to_be_read(desk);
-        let spoiled = [0; 3].map(|_| sample::spoiled(&mut random, &code));
-        for code in spoiled.into_iter().chain([code]) {
-            let more = random.below(9);
-            let lent = random.bytes(room + more);
-            call_from(&desk, Act::Read { rows, code, lent }, report);
-        }
+/// White bands with a few black pels, on pages that expect white and on pages
+/// that expect black there: where a run begins and ends, at every place in a
+/// byte and at the right edge of every width.
+fn white_runs(seed: u64, times: u64, report: &mut Report) {
+    let mut random = Random::new(seed);
+    for _ in 0..20_000 * times {
+        let width = random.between(1, 300);
+        let rows = random.between(1, 12);
+        let mut desk = one_page(&mut random, width);
+        let page = desk.pages[0].as_mut().expect("the open page");
+        page.state.table[0] = random.between(30, 59) as u8;
+        let last = sample::sparse(&mut random, width, 1);
+        page.state.last = [0; MAX_WIDTH / 8];
+        page.state.last[..last.len()].copy_from_slice(&last);
+        let pels = sample::sparse(&mut random, width, rows);
+        both_ways(&mut random, desk, pels, report);
     }
 }
 
@@ -285,12 +311,13 @@ fn misfits(seed: u64, times: u64, report: &mut Report) {
 
 type Part = (&'static str, fn(u64, u64, &mut Report));
 
-const PARTS: [Part; 5] = [
+const PARTS: [Part; 6] = [
     ("runs of calls", runs_of_calls),
     ("calls on any lawful desk", calls_on_any_desk),
     ("large bands", large_bands),
     ("stray bits", stray_bits),
     ("misfits", misfits),
+    ("white runs", white_runs),
 ];
 
 fn main() {
