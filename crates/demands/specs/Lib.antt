@@ -2,3 +2,4 @@ pub mod Search
 pub mod Reading
 pub mod Certain
 pub mod AnyOrder
+pub mod Ran

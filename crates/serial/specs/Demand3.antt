@@ -9,6 +9,7 @@ use Rattle.turns.specs.Service.{Entry, calls}
 use Rattle.turns.specs.Serial.{serial, Whole}
 use Rattle.turns.specs.Order.{standing, in-order, ofKey, one-key}
 use Rattle.turns.specs.Strike.{strike, count, nothing-lost}
+use Rattle.turns.specs.Own.{own, own-order}
 use Rattle.turns.specs.Accepted.{AllAccepted, whole-accepted}
 use Rattle.turns.specs.Office.{Cell}
 use Rattle.turns.specs.Desk.{given}
@@ -50,6 +51,8 @@ module _ (R : Reading) (cs : List Call) where
     pub order : standing calling left ≡ standing calling (run R emptyDesk cs)
     -- what is served of a key depends on that key's own calls alone;
     pub of-key : (k : Key) → ofKey calling k left ≡ serial calling (ofKey calling k (run R emptyDesk cs))
+    -- the calls of a key's pages that are not struck out keep their order,
+    pub own-order : (k : Key) → own calling k left ≡ own calling k (strike calling (run R emptyDesk cs))
     -- and of each key each call that is not struck out is served exactly as often as it was made
     pub nothing-lost : (k : Key) (test : Entry calling → Bool) → count calling k test left ≡ count calling k test (strike calling (run R emptyDesk cs))
 
@@ -67,6 +70,7 @@ module _ (R : Reading) where
         none-open = λ k. page-found (after R emptyDesk (servedCalls R cs)) (lawful-sound (after R emptyDesk (servedCalls R cs)) (b .stays)) k ∙ ap (λ (x : Cell Table Page). given (x .page)) (cells k);
         order = in-order calling (run R emptyDesk cs);
         of-key = λ k. one-key calling k (run R emptyDesk cs);
+        own-order = λ k. own-order calling k (run R emptyDesk cs);
         nothing-lost = λ k t. nothing-lost calling k t (run R emptyDesk cs);
       }
     where

@@ -10,6 +10,7 @@ pub mod Tally
 pub mod Turns
 pub mod Order
 pub mod Strike
+pub mod Own
 pub mod Slots
 pub mod Rows
 pub mod Shelves
