@@ -3,37 +3,34 @@
 use crate::call::{Act, Call, Outcome, Serve};
 use crate::desk::Key;
 use crate::table::CONTEXTS;
-use std::collections::BTreeMap;
 
-/// The calls of the serial run, by their numbers in the run.
-///
-/// Refused calls are struck out, and every page that was abandoned or never
-/// closed, with all its calls. The other pages are served whole, in the order
-/// in which they were closed. A drop or look is no page's own call: it keeps
-/// its place among the closes.
-pub fn serial(calls: &[Call], outcomes: &[Outcome]) -> Vec<usize> {
-    let mut served = Vec::new();
-    let mut open: BTreeMap<Key, Vec<usize>> = BTreeMap::new();
-    for (i, (call, outcome)) in calls.iter().zip(outcomes).enumerate() {
-        if outcome.answer.is_refusal() {
-            continue;
-        }
-        match call.act {
-            Act::Open(..) => {
-                open.insert(call.key, vec![i]);
-            }
-            Act::Write { .. } | Act::Read { .. } => open.entry(call.key).or_default().push(i),
-            Act::Close => {
-                served.extend(open.remove(&call.key).unwrap_or_default());
-                served.push(i);
-            }
-            Act::Abandon => {
-                open.remove(&call.key);
-            }
-            Act::Drop | Act::Look { .. } => served.push(i),
-        }
+/// Where an accepted call is served: a drop or look, which is no page's own
+/// call, where it stood; a page's own call at that page's close. `None` for a
+/// refused call, and for a page that was abandoned or never closed.
+fn place(calls: &[Call], outcomes: &[Outcome], number: usize) -> Option<usize> {
+    let accepted = |number: usize| !outcomes[number].answer.is_refusal();
+    if !accepted(number) {
+        return None;
     }
-    served
+    if matches!(calls[number].act, Act::Drop | Act::Look { .. }) {
+        return Some(number);
+    }
+    let of_key = |&later: &usize| accepted(later) && calls[later].key == calls[number].key;
+    let mut later = (number..calls.len()).filter(of_key);
+    let end = later.find(|&later| matches!(calls[later].act, Act::Close | Act::Abandon))?;
+    matches!(calls[end].act, Act::Close).then_some(end)
+}
+
+/// The calls of the serial run, by their numbers in the run: those that are
+/// not struck out, by the place at which each is served, and the calls of one
+/// page in their own order.
+pub fn serial(calls: &[Call], outcomes: &[Outcome]) -> Vec<usize> {
+    let numbers = 0..calls.len();
+    let mut served: Vec<(usize, usize)> = numbers
+        .filter_map(|number| Some((place(calls, outcomes, number)?, number)))
+        .collect();
+    served.sort();
+    served.into_iter().map(|(_, number)| number).collect()
 }
 
 /// What was compared in a run; enough to see that it was not nothing.
