@@ -1,6 +1,5 @@
 -- A row as the writer's loop meets it: after x pels the table, the registers, the window and the buffer are the definition's. Assumes nothing.
 use mathlib.Core.Path.{_≡_, refl, sym, ap, ap₂, _∙_, subst}
-use mathlib.Core.Logic.{_⊎_, inl, inr}
 use Prim.Native.Nat.{ℕ, suc, _+_, _-_, _*_, _%_, _≤_, _<_}
 use native.Mathlib.Omega.{arith}
 use mathlib.Core.Bool.{Bool, true, false, cond}
@@ -12,7 +11,6 @@ use Rattle.ground.specs.Bools.{no-way}
 use Rattle.ground.specs.Tests.{if-eq, if-ne}
 use Rattle.coder.specs.Writing.{Stage, step, after, after-append}
 use Rattle.coder.specs.Page.{Page, contextOf, entryAt, size, sense, taught, placed, move}
-use Rattle.estimate.specs.declared.Table.{Table}
 use Rattle.estimate.specs.Estimate.{rowOf, next, LawfulEntry, LawfulTable}
 use Rattle.estimate.specs.Laws.{row-sized, next-lawful, set-lawful}
 use borrow.Author.Tests.{lt-ltb, le-ltb}

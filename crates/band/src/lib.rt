@@ -85,7 +85,7 @@ pub fn moved_pel(v: Put, entry: u8) -> Pel
 }
 
 // One pel in the context whose entry is e: the expected one, or the other. Each has its own way, so that neither asks again which it is.
-pub fn put_pel(coder: Coder, e: u8, expected: bool) -> Pel
+fn put_pel(coder: Coder, e: u8, expected: bool) -> Pel
     requires { ⌜ Ready (lift coder []) × LawfulEntry e × (coder .interval .count < 2 ^ 32) ⌝ }
     ensures { λ r. ⌜ Pelled coder e expected r ⌝ }
 {

@@ -1,5 +1,5 @@
 -- A whole run of the code: each call with what its contract allows, on the desk that the call before it left. Assumes nothing.
-use mathlib.Core.Path.{_≡_, refl, sym, ap, ap₂, _∙_, subst}
+use mathlib.Core.Path.{_≡_, refl, sym, ap, ap₂, _∙_}
 use mathlib.Core.List.{List, [], _∷_}
 use Prim.Native.Nat.{ℕ}
 use Rattle.turns.specs.Service.{Entry, calls}

@@ -1,10 +1,9 @@
 -- Expected pels with no shift: they only raise the lower end and narrow the width, so m of one size are one step. Assumes nothing.
-use mathlib.Core.Path.{_≡_, refl, sym, ap, _∙_}
-use Prim.Native.Nat.{ℕ, zero, suc, _+_, _-_, _*_, _≤_}
+use mathlib.Core.Path.{_≡_, refl, sym, ap, _∙_, subst₂}
+use Prim.Native.Nat.{ℕ, zero, suc, _+_, _-_, _*_, _≤_, _<_}
 use native.Mathlib.Omega.{arith}
 use native.Mathlib.Nat.{suc-mul, zero-mul}
 use mathlib.Core.Bool.{true}
-use mathlib.Core.List.{[]}
 use lib.ListN.{replicate}
 use Rattle.ground.specs.Tests.{if-ge}
 use Rattle.interval.specs.declared.Interval.{Interval}
@@ -12,7 +11,6 @@ use Rattle.interval.specs.Interval.{decision, upperPart}
 use Rattle.octets.specs.declared.Coder.{Coder}
 use Rattle.octets.specs.Octets.{Registers, due, double, shifts, part, pel, run}
 use Rattle.octets.specs.Fit.{upper}
-use Rattle.octets.specs.Lift.{lift}
 
 -- ---- two steps up are one
 part-none : (i : Interval) → upperPart 0 i ≡ i
@@ -65,3 +63,20 @@ run-expected (suc m) q w h =
     ap (run (replicate m (decision q true))) (pel-upper q w (omega arith)) ∙ run-expected m q (upper q w) (omega arith)
     ∙ ap (λ (i : Interval). record { interval = i; until = w .until; held = w .held; settled = w .settled })
     (part-more q (m * q) (suc m * q) (w .interval) (omega arith))
+
+-- ---- as a loop takes them: from x on, m steps of the size q at once, up to y and within so much room
+pub in-steps : (q x y room : ℕ) (At : ℕ → ℕ → Type 0) → ((s z : ℕ) → x ≤ z → z < y → s + q ≤ room → At s z → At (s + q) (suc z))
+    → (m : ℕ) → x + m ≤ y → m * q ≤ room → At 0 x → At (m * q) (x + m)
+in-steps q x y room At step zero h r a =
+    let e : 0 * q ≡ 0 = zero-mul q in
+    subst₂ At (sym e) (none x) a
+  where
+    none : (x : ℕ) → x ≡ x + 0
+    none x = omega arith
+in-steps q x y room At step (suc m) h r a =
+    let e : suc m * q ≡ m * q + q = suc-mul m q in
+    subst₂ At (sym e) (more x m)
+    (step (m * q) (x + m) (omega arith) (omega arith) (omega arith) (in-steps q x y room At step m (omega arith) (omega arith) a))
+  where
+    more : (x m : ℕ) → suc (x + m) ≡ x + suc m
+    more x m = omega arith

@@ -1,7 +1,7 @@
 -- Expected pels with no shift, as the reader's loop meets them: one, and a white run of them at once. Assumes nothing.
 use mathlib.Core.Path.{_≡_, refl, sym, ap, _∙_, subst}
 use Prim.Native.Nat.{ℕ, zero, suc, _+_, _-_, _*_, _/_, _%_, _^_, _≤_, _<_}
-use native.Mathlib.Nat.{suc-mul, zero-mul, add-mul, mul-le-mul-right}
+use native.Mathlib.Nat.{zero-mul, add-mul, mul-le-mul-right}
 use native.Mathlib.Omega.{arith}
 use mathlib.Core.Bool.{Bool, true, false, not, _&&_}
 use borrow.Author.Tests.{le-ltb}
@@ -11,11 +11,11 @@ use lib.Seq.{set-getD}
 use Rattle.ground.specs.Tests.{if-ge}
 use Rattle.estimate.specs.Estimate.{rowOf}
 use Rattle.octets.specs.declared.Coder.{Coder}
-use Rattle.octets.specs.Runs.{stillBy, still-more, still-none}
+use Rattle.octets.specs.Runs.{stillBy, still-more, still-none, in-steps}
 use Rattle.exact.specs.Sight.{Sight, nearer, supplied, seek, decide, above}
 use Rattle.template.specs.Pels.{pelsTo, context}
 use Rattle.template.specs.declared.Window.{Window}
-use Rattle.template.specs.Window.{Slid, slid-context}
+use Rattle.template.specs.Window.{slid-context}
 use Rattle.template.specs.White.{Under, whiteWindow, slid-white}
 use Rattle.band.specs.declared.Pel.{Pel}
 use Rattle.band.specs.Rows.{Pelled, bytesOf, stillPel, pelled-still, pelled-quiet}
@@ -99,38 +99,21 @@ module _ (width : ℕ) (over t₀ : List ℕ) (c₀ : Coder) (code : List ℕ) (
       good (sym (set-getD t 0 0)) cx (told-still c v code e wide told (f .within) (f .near) (f .small)) (sym white) (sym (zero-mul (2 ^ (7 - x % 8))))
       (omega (arith, b (x + 3))) (omega arith) (omega arith) (sym (and-true good)))
 
-  -- m of them are one step
-  pub read-run : (m : ℕ) (c : Coder) (v : View) (x : ℕ) → On c v x → x + m ≤ width → 4096 + m * q ≤ c .interval .width → m * q * 2 ^ v .look ≤ v .x
-      → ((i : ℕ) → i < m → getD over (x + i + 2) 0 ≡ 0) → On (stillBy (m * q) c) (viewBy (m * q) v) (x + m)
-  read-run zero c v x f h wide told a =
-      subst (λ (k : ℕ). On (stillBy (0 * q) c) (viewBy (0 * q) v) k) (z x)
-      (subst (λ (d : Coder). On d (viewBy (0 * q) v) x) (sym (still-none c) ∙ ap (λ (n : ℕ). stillBy n c) (sym (zero-mul q)))
-      (subst (λ (u : View). On c u x) (sym (view-none v) ∙ ap (λ (n : ℕ). viewBy n v) (sym (zero-mul q))) f))
-    where
-      z : (x : ℕ) → x ≡ x + 0
-      z x = omega arith
-  read-run (suc m) c v x f h wide told a =
-      let s : suc m * q ≡ m * q + q = suc-mul m q in
-      let p : suc m * q * 2 ^ v .look ≡ m * q * 2 ^ v .look + q * 2 ^ v .look = ap (λ (k : ℕ). k * 2 ^ v .look) s ∙ add-mul (m * q) q (2 ^ v .look) in
-      let x0 : x + 0 ≡ x = omega arith in
-      let a0 : getD over (x + 2) 0 ≡ 0 = ap (λ (k : ℕ). getD over (k + 2) 0) (sym x0) ∙ a 0 (omega arith) in
-      let g : On (stillBy q c) (viewBy q v) (suc x) = one c v x f (omega arith) (omega arith) (omega arith) a0 in
-      let n : On (stillBy (m * q) (stillBy q c)) (viewBy (m * q) (viewBy q v)) (suc x + m)
-      = read-run m (stillBy q c) (viewBy q v) (suc x) g (omega arith) (omega arith) (omega arith)
-      (λ i k. ap (λ (z : ℕ). getD over (z + 2) 0) (move x i) ∙ a (suc i) (omega arith)) in
-      subst (λ (k : ℕ). On (stillBy (suc m * q) c) (viewBy (suc m * q) v) k) (move x m)
-      (subst (λ (d : Coder). On d (viewBy (suc m * q) v) (suc x + m)) (still-more q (m * q) (suc m * q) c (omega arith))
-      (subst (λ (u : View). On (stillBy (m * q) (stillBy q c)) u (suc x + m)) (view-more q (m * q) (suc m * q) v (omega arith)) n))
-    where
-      move : (x m : ℕ) → suc x + m ≡ x + suc m
-      move x m = omega arith
-
-  -- as the code has it: n of the pels up to y, from a window that is white
-  pub read-jump : (c : Coder) (w : Window) (v : View) (x y n s : ℕ) → RowRead width over t₀ c₀ code at₀ good₀ v₀ row t c w v at good x
+  -- as the code has it: n of the pels up to y, from a window that is white, are one step
+  pub read-run : (c : Coder) (w : Window) (v : View) (x y n s : ℕ) → RowRead width over t₀ c₀ code at₀ good₀ v₀ row t c w v at good x
       → 4 * w .above + w .this ≡ 0 → y ≤ width → Under over x y → x ≤ y → n ≤ y - x → s ≡ n * q → 4096 + s ≤ c .interval .width → s * 2 ^ v .look ≤ v .x
       → On (stillBy s c) (viewBy s v) (x + n)
-  read-jump c w v x y n s f z k u l h e room told =
+  read-run c w v x y n s f z h u l k e room told =
       subst (λ (m : ℕ). On (stillBy m c) (viewBy m v) (x + n)) (sym e)
-      (read-run n c v x
-      (subst (λ (o : Window). RowRead width over t₀ c₀ code at₀ good₀ v₀ row t c o v at good x) (slid-white over (pelsTo row x) x w (f .slid) z) f)
-      (omega arith) (omega arith) (subst (λ (m : ℕ). m * 2 ^ v .look ≤ v .x) e told) (λ i j. u .pels (x + i) (omega arith) (omega arith)))
+      (in-steps q x y s (λ m o. On (stillBy m c) (viewBy m v) o) step n (omega arith) (omega arith)
+      (subst (λ (d : Coder). On d (viewBy 0 v) x) (sym (still-none c))
+      (subst (λ (o : View). On c o x) (sym (view-none v))
+      (subst (λ (o : Window). RowRead width over t₀ c₀ code at₀ good₀ v₀ row t c o v at good x) (slid-white over (pelsTo row x) x w (f .slid) z) f))))
+    where
+      step : (m o : ℕ) → x ≤ o → o < y → m + q ≤ s → On (stillBy m c) (viewBy m v) o → On (stillBy (m + q) c) (viewBy (m + q) v) (suc o)
+      step m o a b g r =
+          let p : (m + q) * 2 ^ v .look ≡ m * 2 ^ v .look + q * 2 ^ v .look = add-mul m q (2 ^ v .look) in
+          let i : (m + q) * 2 ^ v .look ≤ s * 2 ^ v .look = mul-le-mul-right (2 ^ v .look) g in
+          subst (λ (d : Coder). On d (viewBy (m + q) v) (suc o)) (still-more m q (m + q) c refl)
+          (subst (λ (n : View). On (stillBy q (stillBy m c)) n (suc o)) (view-more m q (m + q) v refl)
+          (one (stillBy m c) (viewBy m v) o r (omega arith) (omega arith) (omega arith) (u .pels o a b)))

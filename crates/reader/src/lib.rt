@@ -110,7 +110,7 @@ impl View {
     }
 
     // After expected pels with no shift, whose sizes add up to n.
-    pub fn still(self, n: u64) -> Self
+    fn still(self, n: u64) -> Self
         requires { ⌜ (self .look ≤ 7) × (n * 2 ^ self .look ≤ self .x) × (self .x < 2 ^ 32) ⌝ }
         ensures { λ r. ⌜ r ≡ viewBy n self ⌝ }
     {
@@ -124,7 +124,7 @@ impl View {
     }
 
     // How much expected pels may take, beside a writer of that width: no shift, and all of them told by what is in sight.
-    pub fn room(self, wide: u64) -> u64
+    fn room(self, wide: u64) -> u64
         requires { ⌜ (0x1000 ≤ wide) × (self .look ≤ 7) ⌝ }
         ensures { λ r. ⌜ (0x1000 + r ≤ wide) × (r * 2 ^ self .look ≤ self .x) ⌝ }
     {
@@ -152,7 +152,7 @@ impl View {
 }
 
 // The pel that is the expected one, or the other.
-pub fn pel_told(e: u8, expected: bool) -> u8
+fn pel_told(e: u8, expected: bool) -> u8
     ensures { λ r. ⌜ (r ≡ pelOf (e % 2) expected) × (r ≤ 1) ⌝ }
 {
     if expected {
@@ -162,7 +162,7 @@ pub fn pel_told(e: u8, expected: bool) -> u8
 }
 
 // One pel: the code tells it, and the writer codes it.
-pub fn read_pel(coder: Coder, view: View, code: &[u8], e: u8) -> Told
+fn read_pel(coder: Coder, view: View, code: &[u8], e: u8) -> Told
     requires { ⌜ Ready (lift coder []) × LawfulEntry e × (coder .interval .count < 2 ^ 32) × (view .at ≤ length (now code)) × (view .look ≤ 7) × (view .x < 2 ^ 32) ⌝ }
     ensures { λ r. ⌜ ReadPel coder view (now (code .entry)) e r ⌝ }
 {

@@ -132,7 +132,7 @@ fn white_in(row: &[u8], k: usize, y: usize) -> usize
 }
 
 // Where the white pels from x on end, in a row of so many bytes.
-pub fn white_to(row: &[u8], bytes: usize, x: usize) -> usize
+fn white_to(row: &[u8], bytes: usize, x: usize) -> usize
     requires { ⌜ (bytes ≤ length (now row)) × (bytes ≤ 8192) × (x < 8 * bytes) ⌝ }
     ensures { λ r. ⌜ (x ≤ r) × White (now (row .entry)) x r ⌝ }
 {

@@ -5,7 +5,6 @@ use native.Mathlib.Omega.{arith}
 use Rattle.octets.specs.declared.Coder.{Coder}
 use Rattle.octets.specs.OnePel.{low-fits}
 use Rattle.octets.specs.Runs.{stillBy}
-use Rattle.band.specs.declared.Pel.{Pel}
 use mathlib.Core.Bool.{false}
 use Rattle.band.proofs.still_pel.Statement.{statement}
 use Rattle.band.proofs.still_pel.Tie as tie

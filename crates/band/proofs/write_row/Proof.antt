@@ -14,7 +14,7 @@ use Rattle.template.specs.White.{Clear, clear-none, clear-later}
 use Rattle.template.specs.Window.{pels-bits, slid-context}
 use Rattle.estimate.specs.declared.Table.{Table}
 use Rattle.band.specs.Rows.{bytesOf, RowAt, pelled-kept, row-start, row-again, row-done, row-window, row-length}
-use Rattle.band.specs.Runs.{row-jump}
+use Rattle.band.specs.Runs.{row-run}
 use Rattle.band.proofs.write_row.Statement.{statement}
 use Rattle.band.proofs.write_row.Tie as tie
 
@@ -108,7 +108,7 @@ loop-again c =
     let n = c .before .before .before .fits2 in
     let so = s .ensures (c .before .before .before .before .before .before .before .if1 .taken) in
     rw (c .before .still .ensures, c .white2 .ensures) (
-      row-jump (a .width) (pelsTo (a .above .now) (a .width)) (a .row .now) _ _ _ _ (l .table .entries) _ _ (so .0) (pels-bits (a .above .now) (a .width))
+      row-run (a .width) (pelsTo (a .above .now) (a .width)) (a .row .now) _ _ _ _ (l .table .entries) _ _ (so .0) (pels-bits (a .above .now) (a .width))
           (l .coder) (l .window) (l .x) (u .result) (n .result) _ (l .inv .0) (so .1) (u .ensures .1) (u .ensures .0) (n .ensures .0)
           (ap (λ (z : ℕ). n .result * z) (q .ensures)) (omega (arith, n .ensures .1, l .inv .0 .ready .wide)),
       clear-later _ _ _ _ _ _ (omega arith) (u .ensures .1),

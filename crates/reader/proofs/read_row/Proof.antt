@@ -1,10 +1,9 @@
 -- A row is read as the laws' reader reads it, and compared as it goes: the loop's invariant is `RowRead`, and that a run reaches as far as it is
 -- known to. Assumes nothing.
-use mathlib.Core.Path.{_≡_, refl, sym, ap, _∙_, subst}
+use mathlib.Core.Path.{_≡_, sym, ap, _∙_, subst}
 use mathlib.Core.Logic.{⊎-elim}
-use mathlib.Core.Bool.{Bool, _&&_}
-use Prim.Native.Nat.{ℕ, _+_, _-_, _*_, _≤_, _^_}
-use native.Mathlib.Nat.{mul-le-mul-right}
+use mathlib.Core.Bool.{_&&_}
+use Prim.Native.Nat.{ℕ, _+_, _-_, _*_, _≤_}
 use native.Mathlib.Numerals.{add-one}
 use native.Mathlib.Omega.{arith}
 use borrow.Author.Needs.{needs}
@@ -20,7 +19,7 @@ use Rattle.template.specs.Packing.{row-none}
 use Rattle.band.specs.Rows.{bytesOf, pelled-kept}
 use Rattle.reader.specs.Views.{told-bit}
 use Rattle.reader.specs.ReadRow.{RowRead, matches, read-start, read-turn, read-window, read-room}
-use Rattle.reader.specs.Runs.{told-so, match-none, read-jump}
+use Rattle.reader.specs.Runs.{told-so, match-none, read-run}
 use Rattle.reader.specs.Lines.{line-read}
 use Rattle.reader.proofs.read_row.Statement.{statement}
 use Rattle.reader.proofs.read_row.Tie as tie
@@ -119,7 +118,7 @@ loop-again c =
     let n = c .before .before .before .before .fits2 in
     let so = c .before .before .before .before .before .before .before .before .before .starts-run .ensures (c .before .before .before .before .before .before .before .before .if1 .taken) in
     rw (c .before .before .still .ensures, c .before .still2 .ensures, c .white2 .ensures) (
-      read-jump (a .width) (pelsTo (a .above .now) (a .width)) (a .start .table .entries) (a .start .coder) (a .code .now) (a .start .at)
+      read-run (a .width) (pelsTo (a .above .now) (a .width)) (a .start .table .entries) (a .start .coder) (a .code .now) (a .start .at)
           (a .start .good) (a .start .view) (l .row) (l .table .entries) (l .at) (l .good) (so .0) (pels-bits (a .above .now) (a .width)) (c .before .before .before .before .before .before .before .before .before .before .before .before .before .before .before .before .before .before .before .before .before .pre .0)
           (l .coder) (l .window) (l .view) (l .x) (c .before .before .before .before .before .before .before .run-end .result) (n .result) _ (l .inv .0) (so .1) (u .1) (u .2) (u .0) (n .ensures .0)
           (ap (λ (z : ℕ). n .result * z) (q .ensures)) (omega (arith, n .ensures .1, m .0)) (told-so _ _ _ _ _ (n .ensures .1) (m .1)),

@@ -1,5 +1,4 @@
 -- A byte of the row, or 0 past its end. Assumes nothing.
-use native.Mathlib.Omega.{arith}
 use Rattle.template.specs.Words.{word-past}
 use borrow.Author.Needs.{needs}
 use Rattle.template.proofs.join_any.Statement.{statement}

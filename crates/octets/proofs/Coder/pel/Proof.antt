@@ -1,5 +1,5 @@
 -- One pel is the definition's. Assumes nothing.
-use mathlib.Core.Path.{refl, sym, _∙_}
+use mathlib.Core.Path.{refl, _∙_}
 use native.Mathlib.Omega.{arith}
 use borrow.Author.Needs.{needs}
 use Rattle.octets.specs.OnePel.{low-fits, pel-few, pel-bytes, split, left-over}
