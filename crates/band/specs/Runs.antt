@@ -31,7 +31,8 @@ module _ (width : ℕ) (above row t₀ : List ℕ) (c₀ : Coder) (out₀ : List
   On c x = RowAt width above row t₀ c₀ out₀ at₀ t c (whiteWindow above x) out at x
 
   -- one of them: table, buffer and place stay
-  one : (c : Coder) (x : ℕ) → On c x → x < width → 4096 + q ≤ c .interval .width → pelAt row x ≡ 0 → getD above (x + 2) 0 ≡ 0 → On (stillBy q c) (suc x)
+  one : (c : Coder) (x : ℕ) → On c x → x < width → 4096 + q ≤ c .interval .width → pelAt row x ≡ 0 → getD above (x + 2) 0 ≡ 0 → On (stillBy q c)
+      (suc x)
   unfolding stores
   one c x r h wide p a =
       let cx : 0 ≡ context above (pelsTo row x) x = sym (omega (arith, a)) ∙ slid-context above (pelsTo row x) x (whiteWindow above x) (r .slid) in

@@ -35,7 +35,8 @@ ran _ _ _ (more d c r lent es d′ p q) =
       ends = i .ends ∙ ap (λ (s : Step). after reading (s .desk) (calls calling es)) e;
     }
 
--- Demand 3 of the code: whatever the code answered from an empty desk, serving what is left on a new one answers the same and ends with the same tables
+-- Demand 3 of histories: whatever was answered from an empty desk, serving what is left on a new one answers the same
+-- and ends with the same tables
 pub any-history : (es fs : List (Entry calling)) (d d′ : Desk) → Ran emptyDesk es d → Ran emptyDesk fs d′
     → calls calling fs ≡ calls calling (serial calling es)
     → (fs ≡ serial calling es) × ((k : Key) → learnedTable d′ k ≡ learnedTable d k)
@@ -47,5 +48,6 @@ any-history es fs d d′ p q c =
     let s : calls calling fs ≡ calls calling (left reading (calls calling es)) = c
     ∙ ap (λ (l : List (Entry calling)). calls calling (serial calling l)) (a .answers) in (
       b .answers ∙ ap (run reading emptyDesk) s ∙ t .answers ∙ ap (serial calling) (sym (a .answers)),
-      (λ k. ap (λ (z : Desk). learnedTable z k) (b .ends ∙ ap (after reading emptyDesk) s) ∙ t .tables k ∙ ap (λ (z : Desk). learnedTable z k) (sym (a .ends))),
+      (λ k. ap (λ (z : Desk). learnedTable z k) (b .ends ∙ ap (after reading emptyDesk) s) ∙ t .tables k ∙ ap (λ (z : Desk). learnedTable z k)
+          (sym (a .ends))),
     )

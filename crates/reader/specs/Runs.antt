@@ -95,13 +95,15 @@ module _ (width : ℕ) (over t₀ : List ℕ) (c₀ : Coder) (code : List ℕ) (
       let s : getD over (suc x + 2) 0 ≡ getD over (x + 3) 0 = ap (λ (k : ℕ). getD over k 0) (omega arith) in
       let r : set row (x / 8) (getD row (x / 8) 0 + 0) ≡ row = ap (set row (x / 8)) (omega arith) ∙ set-getD row (x / 8) 0 in
       subst (λ (l : List ℕ). RowRead width over t₀ c₀ code at₀ good₀ v₀ l t (stillBy q c) (whiteWindow over (suc x)) (viewBy q v) at good (suc x)) r
-      (read-turn width over t₀ c₀ code at₀ good₀ v₀ row t c (whiteWindow over x) v at good x f h narrow b (stillTold c v e) 0 0 0 t (whiteWindow over (suc x)) at
+      (read-turn width over t₀ c₀ code at₀ good₀ v₀ row t c (whiteWindow over x) v at good x f h narrow b (stillTold c v e) 0 0 0 t
+      (whiteWindow over (suc x)) at
       good (sym (set-getD t 0 0)) cx (told-still c v code e wide told (f .within) (f .near) (f .small)) (sym white) (sym (zero-mul (2 ^ (7 - x % 8))))
       (omega (arith, b (x + 3))) (omega arith) (omega arith) (sym (and-true good)))
 
   -- as the code has it: n of the pels up to y, from a window that is white, are one step
   pub read-run : (c : Coder) (w : Window) (v : View) (x y n s : ℕ) → RowRead width over t₀ c₀ code at₀ good₀ v₀ row t c w v at good x
-      → 4 * w .above + w .this ≡ 0 → y ≤ width → Under over x y → x ≤ y → n ≤ y - x → s ≡ n * q → 4096 + s ≤ c .interval .width → s * 2 ^ v .look ≤ v .x
+      → 4 * w .above + w .this ≡ 0 → y ≤ width → Under over x y → x ≤ y → n ≤ y - x → s ≡ n * q → 4096 + s ≤ c .interval .width
+      → s * 2 ^ v .look ≤ v .x
       → On (stillBy s c) (viewBy s v) (x + n)
   read-run c w v x y n s f z h u l k e room told =
       subst (λ (m : ℕ). On (stillBy m c) (viewBy m v) (x + n)) (sym e)

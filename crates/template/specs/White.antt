@@ -70,7 +70,12 @@ clear-none row above width x y h k = record { within = h; white = white-none row
 
 pub clear-later : (row above : List ℕ) (width x y z : ℕ) → x ≤ z → Clear row above width x y → Clear row above width z y
 clear-later row above width x y z h f =
-    record { within = f .within; white = white-part row x y z y h (omega arith) (f .white); under = under-part above x y z y h (omega arith) (f .under) }
+    record {
+      within = f .within;
+      white = white-part row x y z y h (omega arith) (f .white);
+      under = under-part above x y z y h (omega arith)
+          (f .under);
+    }
 
 -- ---- the window of a white run: only the pel two places on in the row above may be black
 abbrev pub whiteWindow : List ℕ → ℕ → Window

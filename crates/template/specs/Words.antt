@@ -34,7 +34,8 @@ module _ (row : List ℕ) (k n w b : ℕ) (f : Word row k n w) (is : b ≡ getD 
   before i h =
       let e : 8 * suc n - 1 - i ≡ 8 + (8 * n - 1 - i) = omega arith in
       ap (λ (j : ℕ). (w * 2 ^ 8 + b) / 2 ^ j % 2) e
-      ∙ ap (λ (m : ℕ). m % 2) (sym (shr-shr (w * 2 ^ 8 + b) 8 (8 * n - 1 - i)) ∙ ap (λ (m : ℕ). m / 2 ^ (8 * n - 1 - i)) (high w 8 {lo = b} (omega arith)))
+      ∙ ap (λ (m : ℕ). m % 2) (sym (shr-shr (w * 2 ^ 8 + b) 8 (8 * n - 1 - i)) ∙ ap (λ (m : ℕ). m / 2 ^ (8 * n - 1 - i))
+      (high w 8 {lo = b} (omega arith)))
       ∙ f .pels i h
 
   -- its own
@@ -70,7 +71,8 @@ module _ (row : List ℕ) (k n w b : ℕ) (f : Word row k n w) (is : b ≡ getD 
       go i h (no l) = own i (omega arith) h
 
 -- as a program joins it
-pub word-join : (row : List ℕ) (k n w b : ℕ) → Word row k n w → n < 8 → b ≡ getD row (k + n) 0 → b ≤ 255 → Word row k (n + 1) (bitOr (w * 2 ^ 8 % 2 ^ 64) b)
+pub word-join : (row : List ℕ) (k n w b : ℕ) → Word row k n w → n < 8 → b ≡ getD row (k + n) 0 → b ≤ 255 → Word row k (n + 1)
+    (bitOr (w * 2 ^ 8 % 2 ^ 64) b)
 word-join row k n w b f h e o =
     rw (add-one, shl-exact {a = w} (8 * n) 8 64 (f .small) (omega arith), or-shifted w 8 b (omega arith)) (word-next row k n w b f e o)
 
@@ -117,7 +119,8 @@ module _ (row : List ℕ) (k w o : ℕ) (f : Word row k 8 w) (h : o < 64) where
 
   -- its leading zeros are white pels
   pub zeros-white : (i : ℕ) → o ≤ i → i < zeros → pelAt row (8 * k + i) ≡ 0
-  zeros-white i a b = sym (f .pels i (omega (arith, zeros-more .1))) ∙ ap (λ (j : ℕ). w / 2 ^ j % 2) e ∙ sym (bit-of (w / 2 ^ (63 - i)) (i - o)) ∙ ap (λ (m : ℕ). m % 2) none
+  zeros-white i a b = sym (f .pels i (omega (arith, zeros-more .1))) ∙ ap (λ (j : ℕ). w / 2 ^ j % 2) e ∙ sym (bit-of (w / 2 ^ (63 - i)) (i - o))
+      ∙ ap (λ (m : ℕ). m % 2) none
     where
       e : 8 * 8 - 1 - i ≡ 63 - i
       e = omega arith

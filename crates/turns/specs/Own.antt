@@ -2,7 +2,8 @@
 use mathlib.Core.Path.{_≡_, refl, sym, ap, _∙_, subst}
 use mathlib.Core.Bool.{Bool, true, false, cond, _&&_}
 use mathlib.Core.List.{List, [], _∷_, _++_, append-assoc}
-use Rattle.turns.specs.Service.{Kind, opening, band, closing, abandoning, looking, changing, Mark, accepted, refused, crowded, Service, keys, put, Entry}
+use Rattle.turns.specs.Service.{Kind, opening, band, closing, abandoning, looking, changing, Mark, accepted, refused, crowded}
+use Rattle.turns.specs.Service.{Service, keys, put, Entry}
 use Rattle.turns.specs.Serial.{Waiting, waitsAs, servesAs, serialFrom, serial}
 use Rattle.turns.specs.Strike.{strike, closedIn, leftAs, fateAs}
 use Rattle.turns.specs.Base.{keep, put-each}
@@ -121,9 +122,11 @@ module _ (S : Service) (k : S .Key) where
     mine accepted closing p q =
         own-append (w (key (e .call)) ++ (e ∷ [])) (serialFrom S (put (keys S) (key (e .call)) [] w) es)
         ∙ ap (λ l. l ++ own (serialFrom S (put (keys S) (key (e .call)) [] w) es))
-        (own-append (w (key (e .call))) (e ∷ []) ∙ ap (λ l. l ++ own (e ∷ [])) (subst (λ (j : Key). own (w j) ≡ w j) (sym q) (h .self)) ∙ ap (λ l. w (key (e .call)) ++ l) (own-in e [] q (ap ownKind p)))
+        (own-append (w (key (e .call))) (e ∷ []) ∙ ap (λ l. l ++ own (e ∷ [])) (subst (λ (j : Key). own (w j) ≡ w j) (sym q) (h .self)) ∙ ap
+        (λ l. w (key (e .call)) ++ l) (own-in e [] q (ap ownKind p)))
         ∙ ap (λ l. (w (key (e .call)) ++ (e ∷ [])) ++ l)
-        (ih (put (keys S) (key (e .call)) [] w) (fit-own w (key (e .call)) [] q own-none h) ∙ ap (λ l. cond (closedIn S k es) l [] ++ own (strike S es)) (put-at w (key (e .call)) [] q) ∙ none-cond (closedIn S k es) (own (strike S es)))
+        (ih (put (keys S) (key (e .call)) [] w) (fit-own w (key (e .call)) [] q own-none h) ∙ ap
+        (λ l. cond (closedIn S k es) l [] ++ own (strike S es)) (put-at w (key (e .call)) [] q) ∙ none-cond (closedIn S k es) (own (strike S es)))
         ∙ append-assoc (w (key (e .call))) (e ∷ []) (own (strike S es)) ∙ ap (λ (j : Key). w j ++ (e ∷ own (strike S es))) q
         ∙ ap (λ l. w k ++ l) (sym (own-in e (strike S es) q (ap ownKind p)))
     mine accepted abandoning p q =

@@ -41,7 +41,8 @@ returns-2 c =
     let q = c .before .before .before .before .before .before .row-of .ensures in
     let v = rw q at (c .before .before .pel .ensures) in
     rw (c .before .before .before .before .before .if1 .taken, c .moved-pel .ensures)
-    (pelled-moved (a .coder) (a .e) true (c .before .before .pel .result) _ (omega (arith, q, c .before .before .before .if2 .left)) (v .0) (v .1) (c .before .next-entry .ensures))
+    (pelled-moved (a .coder) (a .e) true (c .before .before .pel .result) _ (omega (arith, q, c .before .before .before .if2 .left)) (v .0) (v .1)
+    (c .before .next-entry .ensures))
 
 pel-requires-2 : tie.Need-pel-requires-2
 pel-requires-2 c κs =
@@ -61,7 +62,8 @@ returns-3 c =
     let q = c .before .before .before .before .row-of .ensures in
     let v = rw q at (c .before .before .pel2 .ensures) in
     rw (c .before .before .before .if1 .left, c .moved-pel2 .ensures)
-    (pelled-moved (a .coder) (a .e) false (c .before .before .pel2 .result) _ (omega (arith, row-sized (a .e) .small)) (v .0) (v .1) (c .before .next-entry2 .ensures))
+    (pelled-moved (a .coder) (a .e) false (c .before .before .pel2 .result) _ (omega (arith, row-sized (a .e) .small)) (v .0) (v .1)
+    (c .before .next-entry2 .ensures))
 
 pub put-pel-spec : {M : Type 1} → statement M
 put-pel-spec =

@@ -59,8 +59,14 @@ starts-run-requires c κs = c .before .before .before .pel-at .ensures .1
 
 run-end-requires : tie.Need-run-end-requires Inv-loop μ-loop
 run-end-requires c κs =
-    let p = c .before .before .before .before .before .before .before .before .before .before .before .before .before .before .pre in
-    (p .0, p .1, p .2, c .before .before .before .before .before .before .loop-test .taken, c .before .before .before .before .before .before .before .loop .inv .1)
+    let p = c .before .before .before .before .before .before .before .before .before .before .before .before .before .before .pre in (
+      p .0,
+      p .1,
+      p .2,
+      c .before .before .before .before .before .before .loop-test .taken,
+      c .before .before .before .before .before .before
+          .before .loop .inv .1,
+    )
 
 row-of-requires : tie.Need-row-of-requires Inv-loop μ-loop
 row-of-requires c κs = c .before .before .before .before .before .before .before .before .loop .inv .0 .lawful 0
@@ -76,11 +82,26 @@ fits-requires c κs =
     let l = c .before .before .before .before .before .before .before .before .before .before .loop in
     let e = c .before .row-of .ensures in
     let r = row-sized (getD (l .table .entries) 0 0) in
-    let f = l .inv .0 .ready .rest .fit in
-    (omega (arith, c .before .before .run-end .ensures .1 .within, c .before .before .before .before .before .before .before .before .before .before .before .before .before .before .before .before .before .pre .0), omega (arith, e, r .some), omega (arith, e, r .small), omega (arith, f .narrow))
+    let f = l .inv .0 .ready .rest .fit in (
+      omega (
+        arith,
+        c .before .before .run-end .ensures .1 .within,
+        c .before .before .before .before .before .before .before .before .before
+            .before .before .before .before .before .before .before .before .pre .0,
+      ),
+      omega (arith, e, r .some),
+      omega (arith, e, r .small),
+      omega
+          (arith, f .narrow),
+    )
 
 mul-size : tie.Need-mul-size Inv-loop μ-loop
-mul-size c = omega (arith, c .before .fits2 .ensures .1, c .before .before .before .before .before .before .before .before .before .before .before .before .loop .inv .0 .ready .rest .fit .narrow)
+mul-size c = omega (
+  arith,
+  c .before .fits2 .ensures .1,
+  c .before .before .before .before .before .before .before .before .before .before .before
+      .before .loop .inv .0 .ready .rest .fit .narrow,
+)
 
 still-requires : tie.Need-still-requires Inv-loop μ-loop
 still-requires c κs =
@@ -88,19 +109,42 @@ still-requires c κs =
     (omega (arith, c .before .fits2 .ensures .1), omega (arith, f .narrow), low-fits _ f)
 
 add-x : tie.Need-add-x Inv-loop μ-loop
-add-x c = omega (arith, c .before .before .fits2 .ensures .0, c .before .before .before .before .before .run-end .ensures .1 .within, c .before .before .before .before .before .before .before .before .before .before .before .before .before .before .before .before .before .before .before .before .pre .0)
+add-x c = omega (
+  arith,
+  c .before .before .fits2 .ensures .0,
+  c .before .before .before .before .before .run-end .ensures .1 .within,
+  c .before
+      .before .before .before .before .before .before .before .before .before .before .before .before .before .before .before .before .before
+      .before .before .pre .0,
+)
 
 white-requires : tie.Need-white-requires Inv-loop μ-loop
 white-requires c κs =
-    let p = c .before .before .before .before .before .before .before .before .before .before .before .before .before .before .before .before .before .before .before .before .pre in
-    (p .2, omega (arith, c .before .before .fits2 .ensures .0, c .before .before .before .before .before .run-end .ensures .0, c .before .before .before .before .before .run-end .ensures .1 .within, p .0))
+    let p = c .before .before .before .before .before .before .before .before .before .before .before .before .before .before .before .before
+    .before .before .before .before .pre in (
+      p .2,
+      omega (
+        arith,
+        c .before .before .fits2 .ensures .0,
+        c .before .before .before .before .before .run-end .ensures .0,
+        c .before .before
+            .before .before .before .run-end .ensures .1 .within,
+        p .0,
+      ),
+    )
 
 loop-less : tie.Need-loop-less Inv-loop μ-loop
-loop-less c = omega (arith, c .before .before .if2 .taken, c .before .before .before .before .before .before .before .before .before .before .before .before .before .loop-test .taken)
+loop-less c = omega (
+  arith,
+  c .before .before .if2 .taken,
+  c .before .before .before .before .before .before .before .before .before .before
+      .before .before .before .loop-test .taken,
+)
 
 loop-again : tie.Need-loop-again Inv-loop μ-loop
 loop-again c =
-    let a = c .before .before .before .before .before .before .before .before .before .before .before .before .before .before .before .before .before .before .before .before .before .args in
+    let a = c .before .before .before .before .before .before .before .before .before .before .before .before .before .before .before .before
+    .before .before .before .before .before .args in
     let l = c .before .before .before .before .before .before .before .before .before .before .before .before .before .before .loop in
     let s = c .before .before .before .before .before .before .before .before .starts-run in
     let u = c .before .before .before .before .before .before .run-end in
@@ -108,7 +152,8 @@ loop-again c =
     let n = c .before .before .before .fits2 in
     let so = s .ensures (c .before .before .before .before .before .before .before .if1 .taken) in
     rw (c .before .still .ensures, c .white2 .ensures) (
-      row-run (a .width) (pelsTo (a .above .now) (a .width)) (a .row .now) _ _ _ _ (l .table .entries) _ _ (so .0) (pels-bits (a .above .now) (a .width))
+      row-run (a .width) (pelsTo (a .above .now) (a .width)) (a .row .now) _ _ _ _ (l .table .entries) _ _ (so .0)
+          (pels-bits (a .above .now) (a .width))
           (l .coder) (l .window) (l .x) (u .result) (n .result) _ (l .inv .0) (so .1) (u .ensures .1) (u .ensures .0) (n .ensures .0)
           (ap (λ (z : ℕ). n .result * z) (q .ensures)) (omega (arith, n .ensures .1, l .inv .0 .ready .wide)),
       clear-later _ _ _ _ _ _ (omega arith) (u .ensures .1),
@@ -123,12 +168,24 @@ element-copy-out-e c =
 
 put-pel-requires : tie.Need-put-pel-requires Inv-loop μ-loop
 put-pel-requires c κs =
-    let l = c .before .before .before .before .before .before .before .before .loop in
-    (l .inv .0 .ready, l .inv .0 .lawful _, omega (arith, l .inv .0 .count, l .inv .0 .passed, c .before .before .before .before .before .before .before .before .before .before .before .before .before .before .before .pre .6, c .before .before .before .before .before .before .before .before .before .before .before .before .before .before .before .pre .0))
+    let l = c .before .before .before .before .before .before .before .before .loop in (
+      l .inv .0 .ready,
+      l .inv .0 .lawful _,
+      omega (
+        arith,
+        l .inv .0 .count,
+        l .inv .0 .passed,
+        c .before .before .before .before .before .before .before .before .before .before .before
+            .before .before .before .before .pre .6,
+        c .before .before .before .before .before .before .before .before .before .before .before
+            .before .before .before .before .pre .0,
+      ),
+    )
 
 element-write-table : tie.Need-element-write-table Inv-loop μ-loop
 element-write-table c =
-    let a = c .before .before .before .before .before .before .before .before .before .before .before .before .before .before .before .before .before .before .args in
+    let a = c .before .before .before .before .before .before .before .before .before .before .before .before .before .before .before .before
+    .before .before .args in
     let l = c .before .before .before .before .before .before .before .before .before .before .before .loop in
     let w = row-window _ _ _ _ _ _ _ _ _ _ _ _ _ (pels-bits (a .above .now) (a .width)) (l .inv .0) in
     omega arith
@@ -136,26 +193,42 @@ element-write-table c =
 put-two-requires : tie.Need-put-two-requires Inv-loop μ-loop
 put-two-requires c κs =
     let l = c .before .before .before .before .before .before .before .before .before .before .before .before .loop in
-    let p = c .before .before .before .before .before .before .before .before .before .before .before .before .before .before .before .before .before .before .before .pre in
+    let p = c .before .before .before .before .before .before .before .before .before .before .before .before .before .before .before .before
+    .before .before .before .pre in
     (omega (arith, l .inv .0 .place, l .inv .0 .few, l .inv .0 .passed, p .0, p .7), c .before .before .before .put-pel .ensures .few)
 
 slide-requires : tie.Need-slide-requires Inv-loop μ-loop
 slide-requires c κs =
-    let a = c .before .before .before .before .before .before .before .before .before .before .before .before .before .before .before .before .before .before .args in
+    let a = c .before .before .before .before .before .before .before .before .before .before .before .before .before .before .before .before
+    .before .before .args in
     let l = c .before .before .before .before .before .before .before .before .before .before .before .loop in
-    let p = c .before .before .before .before .before .before .before .before .before .before .before .before .before .before .before .before .before .before .pre in
-    let w = row-window _ _ _ _ _ _ _ _ _ _ _ _ _ (pels-bits (a .above .now) (a .width)) (l .inv .0) in
-    (p .2, omega (arith, c .before .before .before .before .before .before .before .before .before .before .loop-test .taken, p .0), c .before .before .before .before .before .before .before .before .before .pel-at .ensures .1, w .0, w .1)
+    let p = c .before .before .before .before .before .before .before .before .before .before .before .before .before .before .before .before
+    .before .before .pre in
+    let w = row-window _ _ _ _ _ _ _ _ _ _ _ _ _ (pels-bits (a .above .now) (a .width)) (l .inv .0) in (
+      p .2,
+      omega (arith, c .before .before .before .before .before .before .before .before .before .before .loop-test .taken, p .0),
+      c .before
+          .before .before .before .before .before .before .before .before .pel-at .ensures .1,
+      w .0,
+      w .1,
+    )
 
 add-x-2 : tie.Need-add-x-2 Inv-loop μ-loop
-add-x-2 c = omega (arith, c .before .before .before .before .before .before .before .before .before .before .before .loop-test .taken, c .before .before .before .before .before .before .before .before .before .before .before .before .before .before .before .before .before .before .before .pre .0)
+add-x-2 c = omega (
+  arith,
+  c .before .before .before .before .before .before .before .before .before .before .before .loop-test .taken,
+  c .before
+      .before .before .before .before .before .before .before .before .before .before .before .before .before .before .before .before .before
+      .before .pre .0,
+)
 
 loop-less-2 : tie.Need-loop-less-2 Inv-loop μ-loop
 loop-less-2 c = omega (arith, c .before .before .before .before .before .before .before .before .before .before .before .loop-test .taken)
 
 loop-again-2 : tie.Need-loop-again-2 Inv-loop μ-loop
 loop-again-2 c =
-    let a = c .before .before .before .before .before .before .before .before .before .before .before .before .before .before .before .before .before .before .before .args in
+    let a = c .before .before .before .before .before .before .before .before .before .before .before .before .before .before .before .before
+    .before .before .before .args in
     let l = c .before .before .before .before .before .before .before .before .before .before .before .before .loop in
     let p = c .before .before .before .before .before .before .before .before .before .before .pel-at in
     let v = c .before .before .before .put-pel in
@@ -174,7 +247,8 @@ loop-again-2 c =
     (λ w. subst (λ (z : ℕ). Clear (a .row .now) above (a .width) (l .x) z) (sym (w .1)) (l .inv .1)) (m .came) in
     rw add-one (
       row-again (a .width) above (a .row .now) _ _ _ _ (l .table .entries) (l .coder) (l .window) (l .out) (l .at) (l .x) (v .result) (l .inv .0)
-          (c .before .before .before .before .before .before .before .before .before .before .before .loop-test .taken) cx (p .result) (j .table .entries) (s .result) (j .out) (j .at) (put .0) (pels-bits (a .above .now) (a .width))
+          (c .before .before .before .before .before .before .before .before .before .before .before .loop-test .taken) cx (p .result)
+          (j .table .entries) (s .result) (j .out) (j .at) (put .0) (pels-bits (a .above .now) (a .width))
           (slid-context _ _ _ _ (l .inv .0 .slid)) (p .ensures .0) (v .ensures) (s .ensures .0) (s .ensures .1) (put .1) (put .2),
       clear-later _ _ _ _ _ _ (omega arith) reach,
     )

@@ -33,7 +33,12 @@ still-requires c κs =
     (p .4, rw (c .before .before .power .ensures) at (c .if1 .taken), p .5)
 
 add-if2 : tie.Need-add-if2
-add-if2 c = omega (arith, c .before .before .before .before .row-of .ensures, row-sized (c .before .before .before .before .before .before .args .e) .small)
+add-if2 c = omega (
+  arith,
+  c .before .before .before .before .row-of .ensures,
+  row-sized
+      (c .before .before .before .before .before .before .args .e) .small,
+)
 
 still-pel-requires : tie.Need-still-pel-requires
 still-pel-requires c κs = search needs
@@ -43,7 +48,8 @@ returns c =
     let a = c .before .before .before .before .before .before .before .before .before .before .args in
     let p = c .before .before .before .before .before .before .before .before .before .before .pre in
     let q = c .before .before .before .before .before .before .before .before .row-of .ensures in
-    let t = rw (c .before .before .before .before .before .before .before .power .ensures, q) at (c .before .before .before .before .before .if1 .taken) in
+    let t = rw (c .before .before .before .before .before .before .before .power .ensures, q) at
+    (c .before .before .before .before .before .if1 .taken) in
     rw (c .pel-told .ensures .0, c .before .still-pel .ensures, c .before .before .before .before .still .ensures, q)
     (told-still (a .coder) (a .view) (a .code .now) (a .e) (omega (arith, q, c .before .before .if2 .taken)) t (p .3) (p .4) (p .5))
 
@@ -74,11 +80,15 @@ returns-2 c =
     let w = a .coder .interval .width in
     let r : s .result ≡ viewBy (rowOf (a .e)) (a .view) = s .ensures ∙ ap (λ (n : ℕ). viewBy n (a .view)) q in
     let d = c .before .before .before .advance .ensures in
-    let t = rw (c .before .before .before .before .before .before .before .before .before .before .power .ensures, q) at (c .before .before .before .before .before .before .before .before .if1 .taken) in
+    let t = rw (c .before .before .before .before .before .before .before .before .before .before .power .ensures, q) at
+    (c .before .before .before .before .before .before .before .before .if1 .taken) in
     rw (c .before .moved-pel .ensures)
-    (told-moved (a .coder) (a .view) (a .code .now) (a .e) true _ (movedPel (c .before .before .before .before .pel .result) (c .before .before .next-entry .result)) (s .result) (c .before .before .before .advance .result) _
+    (told-moved (a .coder) (a .view) (a .code .now) (a .e) true _
+    (movedPel (c .before .before .before .before .pel .result) (c .before .before .next-entry .result)) (s .result)
+    (c .before .before .before .advance .result) _
     (decide-true _ (sightOf (a .view) w (a .code .now)) t) (c .pel-told2 .ensures .0)
-    (pelled-moved (a .coder) (a .e) true (c .before .before .before .before .pel .result) _ (omega (arith, q, c .before .before .before .before .before .if2 .left)) (v .0) (v .1) (c .before .before .next-entry .ensures))
+    (pelled-moved (a .coder) (a .e) true (c .before .before .before .before .pel .result) _
+    (omega (arith, q, c .before .before .before .before .before .if2 .left)) (v .0) (v .1) (c .before .before .next-entry .ensures))
     (ap (λ (u : View). sightOf u (w - rowOf (a .e)) (a .code .now)) (sym r)) (v .2) (d .0) (d .1) (d .2) (d .3))
 
 pel-requires-2 : tie.Need-pel-requires-2
@@ -105,11 +115,15 @@ returns-3 c =
     let v = rw q at (c .before .before .before .before .pel2 .ensures) in
     let w = a .coder .interval .width in
     let d = c .before .before .before .advance2 .ensures in
-    let t = rw (c .before .before .before .before .before .before .before .power .ensures, q) at (c .before .before .before .before .before .if1 .left) in
+    let t = rw (c .before .before .before .before .before .before .before .power .ensures, q) at
+    (c .before .before .before .before .before .if1 .left) in
     rw (c .before .moved-pel2 .ensures)
-    (told-moved (a .coder) (a .view) (a .code .now) (a .e) false _ (movedPel (c .before .before .before .before .pel2 .result) (c .before .before .next-entry2 .result)) (a .view) (c .before .before .before .advance2 .result) _
+    (told-moved (a .coder) (a .view) (a .code .now) (a .e) false _
+    (movedPel (c .before .before .before .before .pel2 .result) (c .before .before .next-entry2 .result)) (a .view)
+    (c .before .before .before .advance2 .result) _
     (decide-false _ (sightOf (a .view) w (a .code .now)) t) (c .pel-told3 .ensures .0)
-    (pelled-moved (a .coder) (a .e) false (c .before .before .before .before .pel2 .result) _ (omega (arith, row-sized (a .e) .small)) (v .0) (v .1) (c .before .before .next-entry2 .ensures))
+    (pelled-moved (a .coder) (a .e) false (c .before .before .before .before .pel2 .result) _ (omega (arith, row-sized (a .e) .small)) (v .0)
+    (v .1) (c .before .before .next-entry2 .ensures))
     refl (v .2) (d .0) (d .1) (d .2) (d .3))
 
 pub read-pel-spec : {M : Type 1} → statement M

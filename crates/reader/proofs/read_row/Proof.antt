@@ -81,11 +81,27 @@ fits-requires c κs =
     let l = c .before .before .before .before .before .before .before .before .before .loop in
     let e = c .before .row-of .ensures in
     let r = row-sized (getD (l .table .entries) 0 0) in
-    let f = l .inv .0 .ready .rest .fit in
-    (omega (arith, c .before .before .run-end .ensures .1, c .before .before .before .before .before .before .before .before .before .before .before .before .before .before .before .before .pre .0), omega (arith, e, r .some), omega (arith, e, r .small), omega (arith, c .room .ensures .0, f .narrow))
+    let f = l .inv .0 .ready .rest .fit in (
+      omega (
+        arith,
+        c .before .before .run-end .ensures .1,
+        c .before .before .before .before .before .before .before .before .before .before
+            .before .before .before .before .before .before .pre .0,
+      ),
+      omega (arith, e, r .some),
+      omega (arith, e, r .small),
+      omega
+          (arith, c .room .ensures .0, f .narrow),
+    )
 
 mul-size : tie.Need-mul-size Inv-loop μ-loop
-mul-size c = omega (arith, c .before .fits2 .ensures .1, c .before .before .room .ensures .0, c .before .before .before .before .before .before .before .before .before .before .before .loop .inv .0 .ready .rest .fit .narrow)
+mul-size c = omega (
+  arith,
+  c .before .fits2 .ensures .1,
+  c .before .before .room .ensures .0,
+  c .before .before .before .before .before .before
+      .before .before .before .before .before .loop .inv .0 .ready .rest .fit .narrow,
+)
 
 still-requires : tie.Need-still-requires Inv-loop μ-loop
 still-requires c κs =
@@ -98,29 +114,56 @@ still-requires-2 c κs =
     (l .inv .0 .near, told-so _ _ _ _ _ (c .before .before .fits2 .ensures .1) (c .before .before .before .room .ensures .1), l .inv .0 .small)
 
 add-x : tie.Need-add-x Inv-loop μ-loop
-add-x c = omega (arith, c .before .before .before .fits2 .ensures .0, c .before .before .before .before .before .before .run-end .ensures .1, c .before .before .before .before .before .before .before .before .before .before .before .before .before .before .before .before .before .before .before .before .pre .0)
+add-x c = omega (
+  arith,
+  c .before .before .before .fits2 .ensures .0,
+  c .before .before .before .before .before .before .run-end .ensures .1,
+  c
+      .before .before .before .before .before .before .before .before .before .before .before .before .before .before .before .before .before
+      .before .before .before .pre .0,
+)
 
 white-requires : tie.Need-white-requires Inv-loop μ-loop
 white-requires c κs =
-    let p = c .before .before .before .before .before .before .before .before .before .before .before .before .before .before .before .before .before .before .before .before .pre in
-    (p .1, omega (arith, c .before .before .before .fits2 .ensures .0, c .before .before .before .before .before .before .run-end .ensures .0, c .before .before .before .before .before .before .run-end .ensures .1, p .0))
+    let p = c .before .before .before .before .before .before .before .before .before .before .before .before .before .before .before .before
+    .before .before .before .before .pre in (
+      p .1,
+      omega (
+        arith,
+        c .before .before .before .fits2 .ensures .0,
+        c .before .before .before .before .before .before .run-end .ensures .0,
+        c
+            .before .before .before .before .before .before .run-end .ensures .1,
+        p .0,
+      ),
+    )
 
 loop-less : tie.Need-loop-less Inv-loop μ-loop
-loop-less c = omega (arith, c .before .before .before .if2 .taken, c .before .before .before .before .before .before .before .before .before .before .before .before .before .loop-test .taken)
+loop-less c = omega (
+  arith,
+  c .before .before .before .if2 .taken,
+  c .before .before .before .before .before .before .before .before .before
+      .before .before .before .before .loop-test .taken,
+)
 
 loop-again : tie.Need-loop-again Inv-loop μ-loop
 loop-again c =
-    let a = c .before .before .before .before .before .before .before .before .before .before .before .before .before .before .before .before .before .before .before .before .before .args in
+    let a = c .before .before .before .before .before .before .before .before .before .before .before .before .before .before .before .before
+    .before .before .before .before .before .args in
     let l = c .before .before .before .before .before .before .before .before .before .before .before .before .before .before .loop in
     let u = c .before .before .before .before .before .before .before .run-end .ensures in
     let q = c .before .before .before .before .before .before .row-of in
     let m = c .before .before .before .before .before .room .ensures in
     let n = c .before .before .before .before .fits2 in
-    let so = c .before .before .before .before .before .before .before .before .before .starts-run .ensures (c .before .before .before .before .before .before .before .before .if1 .taken) in
+    let so = c .before .before .before .before .before .before .before .before .before .starts-run .ensures
+    (c .before .before .before .before .before .before .before .before .if1 .taken) in
     rw (c .before .before .still .ensures, c .before .still2 .ensures, c .white2 .ensures) (
       read-run (a .width) (pelsTo (a .above .now) (a .width)) (a .start .table .entries) (a .start .coder) (a .code .now) (a .start .at)
-          (a .start .good) (a .start .view) (l .row) (l .table .entries) (l .at) (l .good) (so .0) (pels-bits (a .above .now) (a .width)) (c .before .before .before .before .before .before .before .before .before .before .before .before .before .before .before .before .before .before .before .before .before .pre .0)
-          (l .coder) (l .window) (l .view) (l .x) (c .before .before .before .before .before .before .before .run-end .result) (n .result) _ (l .inv .0) (so .1) (u .1) (u .2) (u .0) (n .ensures .0)
+          (a .start .good) (a .start .view) (l .row) (l .table .entries) (l .at) (l .good) (so .0) (pels-bits (a .above .now) (a .width))
+          (c .before .before .before .before .before .before .before .before .before .before .before .before .before .before .before .before
+          .before .before .before .before .before .pre .0)
+          (l .coder) (l .window) (l .view) (l .x) (c .before .before .before .before .before .before .before .run-end .result) (n .result) _
+          (l .inv .0) (so .1) (u .1) (u .2) (u .0) (n .ensures .0)
           (ap (λ (z : ℕ). n .result * z) (q .ensures)) (omega (arith, n .ensures .1, m .0)) (told-so _ _ _ _ _ (n .ensures .1) (m .1)),
       u .1,
       under-part _ _ _ _ _ (omega arith) (omega arith) (u .2),
@@ -142,7 +185,8 @@ read-pel-requires c κs =
 
 element-write-table : tie.Need-element-write-table Inv-loop μ-loop
 element-write-table c =
-    let a = c .before .before .before .before .before .before .before .before .before .before .before .before .before .before .before .before .before .before .before .args in
+    let a = c .before .before .before .before .before .before .before .before .before .before .before .before .before .before .before .before
+    .before .before .before .args in
     let l = c .before .before .before .before .before .before .before .before .before .before .before .before .loop in
     let w = read-window _ _ _ _ _ _ _ _ _ _ _ _ _ _ _ _ (pels-bits (a .above .now) (a .width)) (l .inv .0) in
     omega arith
@@ -150,25 +194,40 @@ element-write-table c =
 match-two-requires : tie.Need-match-two-requires Inv-loop μ-loop
 match-two-requires c κs =
     let i = c .before .before .before .before .before .before .before .before .before .before .before .before .loop .inv .0 in
-    let p = c .before .before .before .before .before .before .before .before .before .before .before .before .before .before .before .before .before .before .before .pre in
+    let p = c .before .before .before .before .before .before .before .before .before .before .before .before .before .before .before .before
+    .before .before .before .pre in
     (omega (arith, i .place, i .few, i .passed, p .0, p .6), c .before .before .before .before .read-pel .ensures .pelled .few)
 
 add-at : tie.Need-add-at Inv-loop μ-loop
 add-at c =
     let i = c .before .before .before .before .before .before .before .before .before .before .before .before .before .before .loop .inv .0 in
-    let p = c .before .before .before .before .before .before .before .before .before .before .before .before .before .before .before .before .before .before .before .before .before .pre in
+    let p = c .before .before .before .before .before .before .before .before .before .before .before .before .before .before .before .before
+    .before .before .before .before .before .pre in
     omega (arith, i .place, i .few, i .passed, p .0, p .6, c .before .before .before .before .before .before .read-pel .ensures .pelled .few)
 
 slide-requires : tie.Need-slide-requires Inv-loop μ-loop
 slide-requires c κs =
-    let a = c .before .before .before .before .before .before .before .before .before .before .before .before .before .before .before .before .before .before .before .args in
+    let a = c .before .before .before .before .before .before .before .before .before .before .before .before .before .before .before .before
+    .before .before .before .args in
     let l = c .before .before .before .before .before .before .before .before .before .before .before .before .loop in
-    let p = c .before .before .before .before .before .before .before .before .before .before .before .before .before .before .before .before .before .before .before .pre in
-    let w = read-window _ _ _ _ _ _ _ _ _ _ _ _ _ _ _ _ (pels-bits (a .above .now) (a .width)) (l .inv .0) in
-    (p .1, omega (arith, c .before .before .before .before .before .before .before .before .before .before .before .loop-test .taken, p .0), told-bit _ _ _ _ _ (c .before .before .before .before .read-pel .ensures), w .0, w .1)
+    let p = c .before .before .before .before .before .before .before .before .before .before .before .before .before .before .before .before
+    .before .before .before .pre in
+    let w = read-window _ _ _ _ _ _ _ _ _ _ _ _ _ _ _ _ (pels-bits (a .above .now) (a .width)) (l .inv .0) in (
+      p .1,
+      omega (arith, c .before .before .before .before .before .before .before .before .before .before .before .loop-test .taken, p .0),
+      told-bit _ _ _ _ _ (c .before .before .before .before .read-pel .ensures),
+      w .0,
+      w .1,
+    )
 
 array-read-row : tie.Need-array-read-row Inv-loop μ-loop
-array-read-row c = omega (arith, c .before .before .before .before .before .before .before .before .before .before .before .before .loop-test .taken, c .before .before .before .before .before .before .before .before .before .before .before .before .before .before .before .before .before .before .before .before .pre .0)
+array-read-row c = omega (
+  arith,
+  c .before .before .before .before .before .before .before .before .before .before .before
+      .before .loop-test .taken,
+  c .before .before .before .before .before .before .before .before .before .before .before .before .before .before
+      .before .before .before .before .before .before .pre .0,
+)
 
 pel-in-byte-requires : tie.Need-pel-in-byte-requires Inv-loop μ-loop
 pel-in-byte-requires c κs = told-bit _ _ _ _ _ (c .before .before .before .before .before .read-pel .ensures)
@@ -177,22 +236,46 @@ add-row : tie.Need-add-row Inv-loop μ-loop
 add-row c =
     let l = c .before .before .before .before .before .before .before .before .before .before .before .before .before .before .loop in
     let t = c .before .before .before .before .before .before .read-pel in
-    let h = read-room _ _ _ _ _ _ _ _ (l .row) (l .table .entries) (l .coder) (l .window) (l .view) (l .at) (l .good) (l .x) (t .result .p) (l .inv .0)
-    (omega (arith, c .before .before .before .before .before .before .before .before .before .before .before .before .before .loop-test .taken, c .before .before .before .before .before .before .before .before .before .before .before .before .before .before .before .before .before .before .before .before .before .pre .0)) (told-bit _ _ _ _ _ (t .ensures)) in
+    let h = read-room _ _ _ _ _ _ _ _ (l .row) (l .table .entries) (l .coder) (l .window) (l .view) (l .at) (l .good) (l .x) (t .result .p)
+    (l .inv .0)
+    (omega (
+      arith,
+      c .before .before .before .before .before .before .before .before .before .before .before .before .before .loop-test .taken,
+      c
+          .before .before .before .before .before .before .before .before .before .before .before .before .before .before .before .before .before
+          .before .before .before .before .pre .0,
+    )) (told-bit _ _ _ _ _ (t .ensures)) in
     omega (arith, c .pel-in-byte .ensures .0, h)
 
 array-write-row : tie.Need-array-write-row Inv-loop μ-loop
-array-write-row c = omega (arith, c .before .before .before .before .before .before .before .before .before .before .before .before .before .loop-test .taken, c .before .before .before .before .before .before .before .before .before .before .before .before .before .before .before .before .before .before .before .before .before .pre .0)
+array-write-row c = omega (
+  arith,
+  c .before .before .before .before .before .before .before .before .before .before .before .before
+      .before .loop-test .taken,
+  c .before .before .before .before .before .before .before .before .before .before .before .before .before .before
+      .before .before .before .before .before .before .before .pre .0,
+)
 
 add-x-2 : tie.Need-add-x-2 Inv-loop μ-loop
-add-x-2 c = omega (arith, c .before .before .before .before .before .before .before .before .before .before .before .before .before .loop-test .taken, c .before .before .before .before .before .before .before .before .before .before .before .before .before .before .before .before .before .before .before .before .before .pre .0)
+add-x-2 c = omega (
+  arith,
+  c .before .before .before .before .before .before .before .before .before .before .before .before
+      .before .loop-test .taken,
+  c .before .before .before .before .before .before .before .before .before .before .before .before .before .before
+      .before .before .before .before .before .before .before .pre .0,
+)
 
 loop-less-2 : tie.Need-loop-less-2 Inv-loop μ-loop
-loop-less-2 c = omega (arith, c .before .before .before .before .before .before .before .before .before .before .before .before .before .loop-test .taken)
+loop-less-2 c = omega (
+  arith,
+  c .before .before .before .before .before .before .before .before .before .before .before .before
+      .before .loop-test .taken,
+)
 
 loop-again-2 : tie.Need-loop-again-2 Inv-loop μ-loop
 loop-again-2 c =
-    let a = c .before .before .before .before .before .before .before .before .before .before .before .before .before .before .before .before .before .before .before .before .before .args in
+    let a = c .before .before .before .before .before .before .before .before .before .before .before .before .before .before .before .before
+    .before .before .before .before .before .args in
     let l = c .before .before .before .before .before .before .before .before .before .before .before .before .before .before .loop in
     let t = c .before .before .before .before .before .before .read-pel in
     let v = t .result .pel in
@@ -215,7 +298,10 @@ loop-again-2 c =
     (λ w. subst (λ (z : ℕ). (z ≤ a .width) × Under above (l .x) z) (sym (w .1)) (l .inv .1, l .inv .2)) (m .came) in
     rw add-one (
       read-turn (a .width) above (a .start .table .entries) (a .start .coder) (a .code .now) (a .start .at) (a .start .good) (a .start .view) (l .row)
-          (l .table .entries) (l .coder) (l .window) (l .view) (l .at) (l .good) (l .x) (l .inv .0) (c .before .before .before .before .before .before .before .before .before .before .before .before .before .loop-test .taken) (c .before .before .before .before .before .before .before .before .before .before .before .before .before .before .before .before .before .before .before .before .before .pre .0)
+          (l .table .entries) (l .coder) (l .window) (l .view) (l .at) (l .good) (l .x) (l .inv .0)
+          (c .before .before .before .before .before .before .before .before .before .before .before .before .before .loop-test .taken)
+          (c .before .before .before .before .before .before .before .before .before .before .before .before .before .before .before
+          .before .before .before .before .before .before .pre .0)
           (pels-bits (a .above .now) (a .width)) (t .result) cx (t .result .p) (y .result) (j .table .entries) (s .result) (j .at) (j .good) (put .0)
           (slid-context _ _ _ _ (l .inv .0 .slid)) (t .ensures) (t .ensures .told) (y .ensures .0) (s .ensures .0) (s .ensures .1) (put .1) (put .2),
       reach .0,
@@ -224,7 +310,8 @@ loop-again-2 c =
 
 returns : tie.Need-returns Inv-loop μ-loop
 returns c =
-    line-read _ _ _ _ (c .before .before .before .before .before .before .before .before .pre .2) _ _ _ (omega (arith, c .before .loop .inv .0 .passed, c .loop-test .left)) (c .before .loop .inv .0)
+    line-read _ _ _ _ (c .before .before .before .before .before .before .before .before .pre .2) _ _ _
+    (omega (arith, c .before .loop .inv .0 .passed, c .loop-test .left)) (c .before .loop .inv .0)
 
 pub read-row-spec : {M : Type 1} → statement M
 read-row-spec =

@@ -19,7 +19,8 @@ cast-b c = let a = c .before .args in omega (arith, c .shared-slice-known .given
 returns : tie.Need-returns
 returns c =
     let a = c .before .args in
-    word-join (a .row .now) (a .k) (a .n) (a .w) _ (c .before .pre .2) (c .before .pre .1) refl (omega (arith, c .shared-slice-known .given (a .k + a .n)))
+    word-join (a .row .now) (a .k) (a .n) (a .w) _ (c .before .pre .2) (c .before .pre .1) refl
+    (omega (arith, c .shared-slice-known .given (a .k + a .n)))
 
 pub join-spec : {M : Type 1} → statement M
 join-spec = tie.close (tie.spec add-b shared-slice-read-b cast-b returns)

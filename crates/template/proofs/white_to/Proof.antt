@@ -9,7 +9,8 @@ use Rattle.template.proofs.white_to.Statement.{statement}
 use Rattle.template.proofs.white_to.Tie as tie
 
 -- the first word has the pel at x
-first : {A B : Type 0} (x bytes k : ℕ) → 8 ≤ bytes → x < 8 * bytes → (A × (k ≡ x / 8)) ⊎ (B × (k ≡ bytes - 8)) → (A → x / 8 < bytes - 8) → (B → bytes - 8 ≤ x / 8)
+first : {A B : Type 0} (x bytes k : ℕ) → 8 ≤ bytes → x < 8 * bytes → (A × (k ≡ x / 8)) ⊎ (B × (k ≡ bytes - 8)) → (A → x / 8 < bytes - 8) →
+    (B → bytes - 8 ≤ x / 8)
     → (k ≤ bytes - 8) × (8 * k ≤ x) × (x < 8 * k + 64)
 first x bytes k n h (inl (a, e)) f g = let l : x / 8 < bytes - 8 = f a in (omega arith, omega arith, omega arith)
 first x bytes k n h (inr (b, e)) f g = let l : bytes - 8 ≤ x / 8 = g b in (omega arith, omega arith, omega arith)
@@ -80,7 +81,8 @@ white-in-requires-3 : tie.Need-white-in-requires-3 Inv-loop μ-loop
 white-in-requires-3 c κs = search needs
 
 returns-3 : tie.Need-returns-3 Inv-loop μ-loop
-returns-3 c = let l = c .before .before .before .before .before .loop in let w = c .white-in3 in (omega arith, white-more _ _ _ _ (l .inv .3) (w .ensures .2))
+returns-3 c = let l = c .before .before .before .before .before .loop in let w = c .white-in3 in
+    (omega arith, white-more _ _ _ _ (l .inv .3) (w .ensures .2))
 
 returns-4 : tie.Need-returns-4 Inv-loop μ-loop
 returns-4 c = let l = c .before .before .before .before .loop in (l .inv .1, l .inv .3)

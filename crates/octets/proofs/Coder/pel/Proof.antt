@@ -35,8 +35,12 @@ returns-2 c =
     let v = c .before .before .before .code in
     let h = rw (v .ensures .1) at (c .before .if1 .left) in
     let s = split (a .self) (a .q) (a .expected) (c .before .before .before .before .before .pre .0) (omega arith) (omega arith) h in
-    let t = rw (v .ensures .0, v .ensures .1) at (c .settle .ensures .2) in
-    (pel-bytes (a .self) (a .q) (a .expected) (c .before .before .before .before .before .pre .0) (omega arith) (omega arith) h ∙ t _ _ _ (s .low) (s .width) (s .count), c .settle .ensures .1, c .settle .ensures .0 ∙ v .ensures .1)
+    let t = rw (v .ensures .0, v .ensures .1) at (c .settle .ensures .2) in (
+      pel-bytes (a .self) (a .q) (a .expected) (c .before .before .before .before .before .pre .0) (omega arith) (omega arith) h ∙ t _ _ _ (s .low)
+          (s .width) (s .count),
+      c .settle .ensures .1,
+      c .settle .ensures .0 ∙ v .ensures .1,
+    )
 
 pub pel-spec : {M : Type 1} → statement M
 pel-spec = tie.close (tie.spec code-requires (λ c. search needs) (λ c κs. tt) returns settle-requires returns-2)
