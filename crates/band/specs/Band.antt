@@ -104,3 +104,12 @@ pub record IsBand (width rows : ℕ) (band : List ℕ) : Type 0 where
 abbrev pub Right : ℕ → ℕ → List ℕ → List ℕ → List ℕ → Option (List ℕ) → Type 0
 Right width rows table last code (some band) = IsBand width rows band × (written width rows table last band .code ≡ code)
 Right width rows table last code none = (band : List ℕ) → IsBand width rows band → written width rows table last band .code ≡ code → ⊥
+
+-- what is found in a code: by width and rows, table and last row
+abbrev pub Finder : Type 0
+Finder = ℕ → ℕ → List ℕ → List ℕ → List ℕ → Option (List ℕ)
+
+-- a reader: whatever it is asked, what it finds is right
+pub record Reader : Type 0 where
+  pub finds : Finder
+  pub right : (width rows : ℕ) (table last code : List ℕ) → Right width rows table last code (finds width rows table last code)

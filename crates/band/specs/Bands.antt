@@ -203,6 +203,12 @@ module _ (width : ℕ) (band : List ℕ) (bytes′ : ℕ) (is : bytes′ ≡ row
       let r : rows * bytes′ ≤ 64 * bytes′ = mul-le-mul-right bytes′ k in
       (omega (arith, suc-mul y bytes′), omega arith)
 
+pub row-inside : (width : ℕ) (band : List ℕ) (rows y : ℕ) → y < rows → length band ≡ rows * rowBytes width
+    → y * rowBytes width + rowBytes width ≤ length band
+row-inside width band rows y h l =
+    let q : suc y * rowBytes width ≤ rows * rowBytes width = mul-le-mul-right (rowBytes width) h in
+    omega (arith, suc-mul y (rowBytes width), l)
+
 pub record Sizes (y bytes′ len : ℕ) : Type 0 where
   pub inside : y * bytes′ + bytes′ ≤ len
   pub least : bytes′ ≤ y * bytes′
@@ -240,10 +246,16 @@ RowsKeep width band run₀ out₀ run out y =
 pub band-length : (width : ℕ) (last band t₀ out₀ above t : List ℕ) (c : Coder) (out : List ℕ) (at y : ℕ) → BandAt width last band t₀ out₀ above t c out at y → length out ≡ length out₀
 band-length width last band t₀ out₀ above t c out at y b = ap length (b .stored) ∙ length-stores out₀ 0 (b .settled)
 
-pub keep-next : (width : ℕ) (band : List ℕ) (run₀ run run′ : Run) (out₀ out out′ : List ℕ) (y : ℕ) → 1 ≤ width → width ≤ 2048 → 1 ≤ y → RowsKeep width band run₀ out₀ run out y
-    → RowDone width (pelsTo (rowAt width band (y - 1)) width) (rowAt width band y) (run .table .entries) (run .coder) out (run .at) (run′ .table .entries) (run′ .coder) out′ (run′ .at)
-    → RowsKeep width band run₀ out₀ run′ out′ (y + 1)
-keep-next width band run₀ run run′ out₀ out out′ y h w k r d last t o b =
+-- the row n is written, under the row before it
+abbrev pub NextDone : ℕ → List ℕ → Run → List ℕ → Run → List ℕ → ℕ → Type 0
+NextDone width band run out run′ out′ n =
+    RowDone width (pelsTo (rowAt width band (n - 1)) width) (rowAt width band n) (run .table .entries) (run .coder) out (run .at)
+    (run′ .table .entries) (run′ .coder) out′ (run′ .at)
+
+-- one row more: k is the row that is due
+pub keep-next : (width : ℕ) (band : List ℕ) (run₀ run run′ : Run) (out₀ out out′ : List ℕ) (y k : ℕ) → 1 ≤ width → width ≤ 2048 → 1 ≤ y
+    → RowsKeep width band run₀ out₀ run out y → NextDone width band run out run′ out′ k → k ≡ y → RowsKeep width band run₀ out₀ run′ out′ (y + 1)
+keep-next width band run₀ run run′ out₀ out out′ y k h w j r d e last t o b =
     subst₂ (λ (n m : ℕ). BandAt width last band t o (rowAt width band n) (run′ .table .entries) (run′ .coder) out′ (run′ .at) m) (omega arith) (sym (add-one y))
     (band-again width last band t o (rowAt width band (y - 1)) (run .table .entries) (run .coder) out (run .at) y (rowAt width band y) (run′ .table .entries) (run′ .coder) out′ (run′ .at)
-    (r last t o b) h refl d w)
+    (r last t o b) h refl (subst (NextDone width band run out run′ out′) e d) w)

@@ -10,7 +10,7 @@ use Rattle.estimate.specs.Laws.{row-sized}
 use Rattle.interval.specs.Interval.{Decision, decision, whole}
 use Rattle.octets.specs.Octets.{Registers, run, start}
 use Rattle.octets.specs.Fit.{AllSized}
-use Rattle.exact.specs.Value.{LawfulBytes, value, places, exact}
+use Rattle.exact.specs.Value.{LawfulBytes, need, value, places, exact}
 use Rattle.exact.specs.Code.{coded, value-written, length-law}
 use Rattle.exact.specs.Code as exactly
 use Rattle.template.specs.Pels.{bandTo}
@@ -65,3 +65,10 @@ module _ (width rows : ℕ) (table last band : List ℕ) where
       → 8 * (length (written width rows table last band .code) - 1) - (length (written width rows table last band .code) - 1) / 2 ≤ 11 + written width rows table last band .shifts
   code-length =
       subst₂ (λ (c : List ℕ) (s : ℕ). 2 ≤ length c → 8 * (length c - 1) - (length c - 1) / 2 ≤ 11 + s) code-is shifts-is (length-law decided sizes)
+
+  -- the bytes cover all 12 + S bits; without the last of them they would not
+  pub code-covers : (12 + written width rows table last band .shifts ≤ places 0 (written width rows table last band .code))
+      × (need 0 (written width rows table last band .code) ≤ 12 + written width rows table last band .shifts)
+  code-covers =
+      let c = coded decided sizes in
+      subst₂ (λ (l : List ℕ) (s : ℕ). (12 + s ≤ places 0 l) × (need 0 l ≤ 12 + s)) code-is shifts-is (c .covers, c .wanted)

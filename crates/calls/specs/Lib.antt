@@ -3,5 +3,3 @@ pub mod Leaving
 pub mod Opening
 pub mod Tables
 pub mod Showing
-pub mod Bands
-pub mod Reads

@@ -12,7 +12,8 @@ use Rattle.store.specs.Store.{inFront, storeAt, stores, stores-next, stores-fit
 unfoldable pub shown : List ℕ → List ℕ → ℕ → List ℕ
 shown out bytes i = stores out 1 (take i bytes)
 
-pub shown-next : (out₀ bytes out : List ℕ) (i : ℕ) → i < length bytes → out ≡ shown out₀ bytes i → set out i (getD bytes i 0) ≡ shown out₀ bytes (i + 1)
+pub shown-next : (out₀ bytes out : List ℕ) (i : ℕ) → i < length bytes → out ≡ shown out₀ bytes i → set out i (getD bytes i 0) ≡ shown out₀ bytes
+    (i + 1)
 unfolding shown storeAt
 shown-next out₀ bytes out i h e = rw add-one (stores-next out₀ bytes out 1 (suc i) i h e (omega arith))
 

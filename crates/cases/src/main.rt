@@ -49,7 +49,7 @@ fn write_band(d: Desk, key: Key, rows: u64, pels: &[u8], out: &mut [u8]) -> Outc
         key: key,
         rows: rows,
     };
-    calls::write(d, ask, pels, out)
+    bands::write(d, ask, pels, out)
 }
 
 // A page of width 1 for (school 1, class 1), on an empty desk.

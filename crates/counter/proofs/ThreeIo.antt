@@ -37,7 +37,6 @@ use denote.Triple.Call.{calls-at}
 use denote.Triple.Clauses.{Ended, Clauses, ensured, lasts, closing}
 use denote.Triple.Walked.{says, Stays, stay-ref, stay-dropped, gave-slice, walkOf, AllGo, goes-dropped, goes-ref, goes-gave-slice, Walks, ends-at, walked, walk-meets}
 use denote.Exit.{yes}
-use Rattle.desk.specs.declared.Answer.{Answer}
 use Rattle.desk.specs.declared.Desk.{Desk}
 use Rattle.desk.specs.declared.Outcome.{Outcome}
 use Rattle.desk.proofs.Desk as T
@@ -46,17 +45,8 @@ use Rattle.desk.proofs.Outcome as R
 use Rattle.desk.proofs.Outcome.Laws as R′
 use Rattle.desk.proofs.Answer as N
 use Rattle.desk.proofs.Answer.Laws as N′
+use Rattle.counter.specs.Asked.{outcomeOf}
 use Rattle.counter.proofs.Carried.{mach, nv, answer-is, desk-is, answer-makes}
-
--- ---- a call that is said by equations
-abbrev pub Gives : (Desk → ℕ → ℕ → ℕ → List ℕ → List ℕ → Outcome) → (Desk → ℕ → ℕ → ℕ → List ℕ → List ℕ → List ℕ) → Desk → ℕ → ℕ → ℕ → List ℕ → List ℕ → Outcome → List ℕ → Type 0
-Gives spec lent d s c n xs ys r zs = (r ≡ spec d s c n xs ys) × (zs ≡ lent d s c n xs ys)
-
-abbrev pub Tells : (Desk → ℕ → ℕ → ℕ → List ℕ → List ℕ → Outcome) → (Desk → ℕ → ℕ → ℕ → List ℕ → List ℕ → List ℕ) → Desk → ℕ → ℕ → ℕ → List ℕ → List ℕ → Answer → Desk → List ℕ → Type 0
-Tells spec lent d s c n xs ys answer after zs = (answer ≡ spec d s c n xs ys .answer) × (after ≡ spec d s c n xs ys .desk) × (zs ≡ lent d s c n xs ys)
-
-pub gives-tells : (spec : Desk → ℕ → ℕ → ℕ → List ℕ → List ℕ → Outcome) (lent : Desk → ℕ → ℕ → ℕ → List ℕ → List ℕ → List ℕ) (d : Desk) (s c n : ℕ) (xs ys : List ℕ) (r : Outcome) (zs : List ℕ) → Gives spec lent d s c n xs ys r zs → Tells spec lent d s c n xs ys (r .answer) (r .desk) zs
-gives-tells spec lent d s c n xs ys r zs e = (ap (λ (z : Outcome). z .answer) (e .0), ap (λ (z : Outcome). z .desk) (e .0), e .1)
 
 -- ---- the MIR of such a call
 abbrev pub template : Name → Fn
@@ -99,22 +89,21 @@ fEnded = record {
   kept = (yes, (yes, (yes, (yes, (yes, (yes, tt))))));
 }
 
-module _ (Gives : Desk → ℕ → ℕ → ℕ → List ℕ → List ℕ → Outcome → List ℕ → Type 0) {M : Type 1} (𝓤 : URA M) where
+module _ (Says : Desk → ℕ → ℕ → ℕ → List ℕ → List ℕ → Outcome → List ℕ → Type 0) {M : Type 1} (𝓤 : URA M) where
   abbrev gClauses : Clauses 𝓤 gEnded
-  gClauses κs a = record { ghost = Unit {0}; requires = λ _. emp 𝓤; ensures = λ _ r e. fact 𝓤 (Gives (a .0) (a .1 .0) (a .1 .1 .0) (a .1 .1 .1 .0) (now (a .1 .1 .1 .1 .0)) (now (a .1 .1 .1 .1 .1 .0)) r (now (e .1 .1 .1 .1 .1 .0))) }
+  gClauses κs a = record { ghost = Unit {0}; requires = λ _. emp 𝓤; ensures = λ _ r e. fact 𝓤 (Says (a .0) (a .1 .0) (a .1 .1 .0) (a .1 .1 .1 .0) (now (a .1 .1 .1 .1 .0)) (now (a .1 .1 .1 .1 .1 .0)) r (now (e .1 .1 .1 .1 .1 .0))) }
 
   abbrev pub Callee : (H : Heap 𝓤) (A : Atoms 𝓤) → Contract 𝓤
   Callee H A = tripleOf 𝓤 H A (gEnded .signature) (closing 𝓤 H A gEnded gClauses)
 
-module _ (Tells : Desk → ℕ → ℕ → ℕ → List ℕ → List ℕ → Answer → Desk → List ℕ → Type 0) {M : Type 1} (𝓤 : URA M) where
+module _ (Says : Desk → ℕ → ℕ → ℕ → List ℕ → List ℕ → Outcome → List ℕ → Type 0) {M : Type 1} (𝓤 : URA M) where
   abbrev fClauses : Clauses 𝓤 fEnded
-  fClauses κs a = record { ghost = Unit {0}; requires = λ _. emp 𝓤; ensures = λ _ r e. fact 𝓤 (Tells (now (a .0)) (a .1 .0) (a .1 .1 .0) (a .1 .1 .1 .0) (now (a .1 .1 .1 .1 .0)) (now (a .1 .1 .1 .1 .1 .0)) r (now (e .0)) (now (e .1 .1 .1 .1 .1 .0))) }
+  fClauses κs a = record { ghost = Unit {0}; requires = λ _. emp 𝓤; ensures = λ _ r e. fact 𝓤 (Says (now (a .0)) (a .1 .0) (a .1 .1 .0) (a .1 .1 .1 .0) (now (a .1 .1 .1 .1 .0)) (now (a .1 .1 .1 .1 .1 .0)) (outcomeOf r (now (e .0))) (now (e .1 .1 .1 .1 .1 .0))) }
 
 abbrev stayed : Stays (fEnded .signature .params) (fEnded .kept)
 stayed = (stay-ref (0 ∷ []) tt (plain (λ _. T.the-row)), (stay-dropped (plain (λ _. u64)) yes, (stay-dropped (plain (λ _. u64)) yes, (stay-dropped (plain (λ _. u64)) yes, (stay-dropped (shrSliceOf (1 ∷ []) tt (plain (λ _. u8))) yes, (gave-slice (2 ∷ []) tt (plain (λ _. u8)), tt))))))
 
-module _ (g : Name) (Gives : Desk → ℕ → ℕ → ℕ → List ℕ → List ℕ → Outcome → List ℕ → Type 0) (Tells : Desk → ℕ → ℕ → ℕ → List ℕ → List ℕ → Answer → Desk → List ℕ → Type 0)
-    (so : (d : Desk) (s c n : ℕ) (xs ys : List ℕ) (r : Outcome) (zs : List ℕ) → Gives d s c n xs ys r zs → Tells d s c n xs ys (r .answer) (r .desk) zs)
+module _ (g : Name) (Says : Desk → ℕ → ℕ → ℕ → List ℕ → List ℕ → Outcome → List ℕ → Type 0)
     {M : Type 1} (𝓤 : URA M) (H : Heap 𝓤) (A : Atoms 𝓤) (W : Given 𝓤 H A) where
   module _ (κ κ₁ κ₂ : Lft) (q q₁ q₂ : Share) (b o : ℕ) (γ : GName) (h : Desk) (s c n : ℕ) (s-fits : s < 2 ^ 64) (c-fits : c < 2 ^ 64) (n-fits : n < 2 ^ 64) (xs ys : RefT (List ℕ)) (xs-room : Room u8 (length (xs .now))) (ys-room : Room u8 (length (ys .now))) where
     abbrev x : RefT Desk × (ℕ × (ℕ × (ℕ × (RefT (List ℕ) × (RefT (List ℕ) × Unit {0})))))
@@ -140,32 +129,32 @@ module _ (g : Name) (Gives : Desk → ℕ → ℕ → ℕ → List ℕ → List 
     Rest = owns (u64 ∷ u64 ∷ u64 ∷ ShrSlice (named 1) κ₁ u8 ∷ MutSlice (named 2) κ₂ u8 ∷ []) (x .1) rest-vals
 
     abbrev Post : Val → SProp 𝓤
-    Post = walkOf 𝓤 H A fEnded stayed (fClauses Tells 𝓤) .post (((κ, (κ₁, (κ₂, tt))), (q, (q₁, (q₂, tt))), tt, x, at), tt)
+    Post = walkOf 𝓤 H A fEnded stayed (fClauses Says 𝓤) .post (((κ, (κ₁, (κ₂, tt))), (q, (q₁, (q₂, tt))), tt, x, at), tt)
 
-    abbrev to-g : Callee Gives 𝓤 H A .Ghost
+    abbrev to-g : Callee Says 𝓤 H A .Ghost
     to-g = (((κ₁, (κ₂, tt)), (q₁, (q₂, tt)), tt, gx, (mach h ∷ [], rest-vals)), tt)
 
-    goes-g : Is T.the-row h (mach h ∷ []) → ent 𝓤 (sep 𝓤 (sep 𝓤 (A .lft κ₁ q₁) (sep 𝓤 (A .lft κ₂ q₂) (sem 𝓤 H A ftrue))) (sem 𝓤 H A Rest)) (Callee Gives 𝓤 H A .pre to-g)
+    goes-g : Is T.the-row h (mach h ∷ []) → ent 𝓤 (sep 𝓤 (sep 𝓤 (A .lft κ₁ q₁) (sep 𝓤 (A .lft κ₂ q₂) (sem 𝓤 H A ftrue))) (sem 𝓤 H A Rest)) (Callee Says 𝓤 H A .pre to-g)
     goes-g is =
         qed W ((‵ (flft κ₁ q₁) ⊛ ‵ (flft κ₂ q₂) ⊛ ‵ ftrue) ∷ ‵ Rest ∷ []) ∵ move ! (1 ∷ []) $
         owned ! T.the-row (Is T.the-row) (LL.makes T.the-type T′.the-plain 𝓤 H A) h _ is $ fjoin ! $ move ! (1 ∷ 0 ∷ []) $ join ! $ frame ! $ done !
 
     -- what the callee says
     abbrev Said : Outcome → List ℕ → Type 0
-    Said r zs = Gives h s c n (xs .now) (ys .now) r zs
+    Said r zs = Says h s c n (xs .now) (ys .now) r zs
 
     exits : (r : Outcome) (zs : List ℕ) → Said r zs → length zs ≡ length (ys .now) → Is N.the-row (r .answer) (nv r ∷ [])
         → ent 𝓤 (⋆ 𝓤 H A (‵ (fobs γ (T.the-row .coded .code (r .desk))) ∷ ‵ (fbor κ (Body (mem T.the-row) b o γ)) ∷ ‵ (flft κ q) ∷ (‵ (flft κ₁ q₁) ⊛ ‵ (flft κ₂ q₂) ⊛ ‵ ftrue) ∷ ‵ (finally u8 (ys .name) zs) ∷ [])) (Post (nv r))
     exits r zs e l is =
         qed W (‵ (fobs γ (T.the-row .coded .code (r .desk))) ∷ ‵ (fbor κ (Body (mem T.the-row) b o γ)) ∷ ‵ (flft κ q) ∷ (‵ (flft κ₁ q₁) ⊛ ‵ (flft κ₂ q₂) ⊛ ‵ ftrue) ∷ ‵ (finally u8 (ys .name) zs) ∷ []) ∵
-        suffices ! _ (ends-at 𝓤 H A fEnded stayed (fClauses Tells 𝓤) W (((κ, (κ₁, (κ₂, tt))), (q, (q₁, (q₂, tt))), tt, x, at), tt) (nv r) (r .answer) (r .desk, (tt, (tt, (tt, (tt, (zs, tt)))))) (tt, (tt, (tt, (tt, (tt, (l, tt))))))) $
-        says ! (so h s c n (xs .now) (ys .now) r zs e) $
+        suffices ! _ (ends-at 𝓤 H A fEnded stayed (fClauses Says 𝓤) W (((κ, (κ₁, (κ₂, tt))), (q, (q₁, (q₂, tt))), tt, x, at), tt) (nv r) (r .answer) (r .desk, (tt, (tt, (tt, (tt, (zs, tt)))))) (tt, (tt, (tt, (tt, (tt, (l, tt))))))) $
+        says ! e $
         move ! (2 ∷ 3 ∷ []) $ join ! $ frame ! $ feqI ! (List Val) (vptr b o ∷ []) (vptr b o ∷ []) refl $ fjoin3 ! $
         -- [the desk's borrow; the last list]
         nothing ! $ move ! (2 ∷ 0 ∷ []) $ fjoin ! $ nothing ! $ fjoin ! $ nothing ! $ fjoin ! $ nothing ! $ fjoin ! $ nothing ! $ fjoin ! $ move ! (1 ∷ 0 ∷ []) $ fjoin ! $ frame ! $
         owned ! N.the-row (Is N.the-row) (answer-makes 𝓤 H A) (r .answer) _ is $ done !
 
-    module _ (C : Calls 𝓤 H) (Λ : Loops 𝓤 H) (fm : FmC 𝓤 H (W .laws) C) (known : Triple 𝓤 (C g) (Callee Gives 𝓤 H A)) where
+    module _ (C : Calls 𝓤 H) (Λ : Loops 𝓤 H) (fm : FmC 𝓤 H (W .laws) C) (known : Triple 𝓤 (C g) (Callee Says 𝓤 H A)) where
       walk : ent 𝓤 (onEntry 𝓤 H A (fEnded .signature) (κ, (κ₁, (κ₂, tt))) (q, (q₁, (q₂, tt))) x at) (WpFn 𝓤 H C Λ (template g) (vptr b o ∷ vint w64 s ∷ vint w64 c ∷ vint w64 n ∷ xv ∷ yv ∷ []) Post)
       walk =
           qed W ((‵ (flft κ q) ⊛ ‵ (flft κ₁ q₁) ⊛ ‵ (flft κ₂ q₂) ⊛ ‵ ftrue) ∷ ‵ (owns (MutRef (named 0) κ T.the-row ∷ u64 ∷ u64 ∷ u64 ∷ ShrSlice (named 1) κ₁ u8 ∷ MutSlice (named 2) κ₂ u8 ∷ []) x at) ∷ []) ∵ enter ! C Λ (template g) (vptr b o ∷ vint w64 s ∷ vint w64 c ∷ vint w64 n ∷ xv ∷ yv ∷ []) _ $
@@ -179,10 +168,10 @@ module _ (g : Name) (Gives : Desk → ℕ → ℕ → ℕ → List ℕ → List 
           assigns ! (of-opd ! (load ! (from ! (hop ! (look ! 25 refl) (stop !))) (look-raw ! 0 refl))) (from ! (stop !)) (init ! 11 refl (LL.lawful T.the-type T′.the-laws 𝓤 H A W .typed h _ was .0)) $
           assigns ! (addr ! (from ! (fld ! refl (hop ! (look-in ! 15 (sub ! 0 refl (whole !))) (stop !))))) (from ! (stop !)) (init ! 9 refl (tt, tt)) $
           assigns ! (agg ! (and-then ! (load ! (from ! (stop !)) (look ! 9 refl)) (and-then ! (load ! (from ! (fld ! refl (stop !))) (look-in ! 15 (sub ! 1 refl (whole !)))) (no-more !)))) (from ! (stop !)) (init ! 7 refl (tt, (tt, (record { fits = ys-room .0 }, tt)))) $
-          move ! (5 ∷ 6 ∷ []) $ use2 W (raw (Callee Gives 𝓤 H A .pre to-g)) (goes-g was) $
+          move ! (5 ∷ 6 ∷ []) $ use2 W (raw (Callee Says 𝓤 H A .pre to-g)) (goes-g was) $
           -- [what the callee asks; the desk's cell; what a Desk owns; the open borrow; obs; auth; the last local; …]
-          calls-at ! fm (Callee Gives 𝓤 H A) known to-g (and-then ! (load ! (from ! (stop !)) (look ! 10 refl)) (and-then ! (load ! (from ! (stop !)) (look ! 22 refl)) (and-then ! (load ! (from ! (stop !)) (look ! 20 refl)) (and-then ! (load ! (from ! (stop !)) (look ! 18 refl)) (and-then ! (load ! (from ! (stop !)) (look ! 16 refl)) (and-then ! (load ! (from ! (stop !)) (look ! 6 refl)) (no-more !))))))) (λ v.
-          use1 W (later (some (λ (r : Outcome). ((‵ (flft κ₁ q₁) ⊛ ‵ (flft κ₂ q₂) ⊛ ‵ ftrue) ⊛ ‵ (R.the-row .own r (v ∷ []))) ⊛ raw (ensured 𝓤 H A gEnded (gClauses Gives 𝓤) (κ₁, (κ₂, tt)) gx tt r)))) (id⊢ 𝓤 _) $ await ! tt $ pick ! (λ r.
+          calls-at ! fm (Callee Says 𝓤 H A) known to-g (and-then ! (load ! (from ! (stop !)) (look ! 10 refl)) (and-then ! (load ! (from ! (stop !)) (look ! 22 refl)) (and-then ! (load ! (from ! (stop !)) (look ! 20 refl)) (and-then ! (load ! (from ! (stop !)) (look ! 18 refl)) (and-then ! (load ! (from ! (stop !)) (look ! 16 refl)) (and-then ! (load ! (from ! (stop !)) (look ! 6 refl)) (no-more !))))))) (λ v.
+          use1 W (later (some (λ (r : Outcome). ((‵ (flft κ₁ q₁) ⊛ ‵ (flft κ₂ q₂) ⊛ ‵ ftrue) ⊛ ‵ (R.the-row .own r (v ∷ []))) ⊛ raw (ensured 𝓤 H A gEnded (gClauses Says 𝓤) (κ₁, (κ₂, tt)) gx tt r)))) (id⊢ 𝓤 _) $ await ! tt $ pick ! (λ r.
           split ! $ move ! (1 ∷ []) $ use1 W (some (λ (zs : Unit {0} × (Unit {0} × (Unit {0} × (Unit {0} × (Unit {0} × (List ℕ × Unit {0})))))). ‵ (lasts gEnded (κ₁, (κ₂, tt)) gx zs) ⊛ raw (fact 𝓤 (Said r (zs .1 .1 .1 .1 .1 .0))))) (id⊢ 𝓤 _) $ pick ! (λ zs.
           split ! $ move ! (1 ∷ []) $ heard ! (Said r (zs .1 .1 .1 .1 .1 .0)) (λ e. fsplit ! $ drop ! $ fsplit ! $ drop ! $ fsplit ! $ drop ! $ fsplit ! $ drop ! $ fsplit ! $ drop ! $ fsplit ! $ fsplit ! $ move ! (1 ∷ []) $ feqL ! (λ l.
           -- [the last list; true; the slices' tokens and the result; the desk's cell; …]
@@ -199,14 +188,14 @@ module _ (g : Name) (Gives : Desk → ℕ → ℕ → ℕ → List ℕ → List 
           move ! (26 ∷ 27 ∷ []) $ free1 ! $ move ! (24 ∷ 25 ∷ []) $ free1 ! $ move ! (22 ∷ 23 ∷ []) $ free1 ! $ move ! (20 ∷ 21 ∷ []) $ free1 ! $ move ! (18 ∷ 19 ∷ []) $ free1 ! $ move ! (16 ∷ 17 ∷ []) $ free1 ! $ move ! (14 ∷ 15 ∷ []) $ free1 ! $ move ! (12 ∷ 13 ∷ []) $ free1 ! $ move ! (10 ∷ 11 ∷ []) $ free1 ! $ move ! (8 ∷ 9 ∷ []) $ free1 ! $ move ! (6 ∷ 7 ∷ []) $ free1 ! $ free0 ! $
           keep ! (0 ∷ 1 ∷ 2 ∷ 3 ∷ 4 ∷ []) $ by ! (exits r (zs .1 .1 .1 .1 .1 .0) e l (answer-is r _ is)))))))))))))))))))))
 
-  walks : (C : Calls 𝓤 H) (Λ : Loops 𝓤 H) → FmC 𝓤 H (W .laws) C → Triple 𝓤 (C g) (Callee Gives 𝓤 H A) → Walks 𝓤 H A fEnded stayed (WpFn 𝓤 H C Λ (template g)) (fClauses Tells 𝓤)
-  walks C Λ fm known = walked 𝓤 H A fEnded stayed (fClauses Tells 𝓤) (WpFn 𝓤 H C Λ (template g)) (λ κs. (ptr-vals, (uint-vals w64, (uint-vals w64, (uint-vals w64, (slice-vals, (slice-vals, tt)))))))
+  walks : (C : Calls 𝓤 H) (Λ : Loops 𝓤 H) → FmC 𝓤 H (W .laws) C → Triple 𝓤 (C g) (Callee Says 𝓤 H A) → Walks 𝓤 H A fEnded stayed (WpFn 𝓤 H C Λ (template g)) (fClauses Says 𝓤)
+  walks C Λ fm known = walked 𝓤 H A fEnded stayed (fClauses Says 𝓤) (WpFn 𝓤 H C Λ (template g)) (λ κs. (ptr-vals, (uint-vals w64, (uint-vals w64, (uint-vals w64, (slice-vals, (slice-vals, tt)))))))
       (λ κs. (mut-tells (named 0) (κs .0) T.the-row, (uint-tells w64, (uint-tells w64, (uint-tells w64, (shr-slice-tells (named 1) (κs .1 .0) u8, (mut-slice-tells (named 2) (κs .1 .1 .0) u8, tt)))))))
       (λ κs qs bounds a _ are. via 𝓤 _ (fst∗ 𝓤 _ (emp 𝓤)) (walk (κs .0) (κs .1 .0) (κs .1 .1 .0) (qs .0) (qs .1 .0) (qs .1 .1 .0) (a .0 .ptr .0) (a .0 .ptr .1) (a .0 .name) (a .0 .now) (a .1 .0) (a .1 .1 .0) (a .1 .1 .1 .0) (are .1 .0 .1) (are .1 .1 .0 .1) (are .1 .1 .1 .0 .1) (a .1 .1 .1 .1 .0) (a .1 .1 .1 .1 .1 .0) (are .1 .1 .1 .1 .0 .0 .1) (are .1 .1 .1 .1 .1 .0 .0 .1) C Λ fm known))
 
   goes : AllGo 𝓤 H A W 3 (fEnded .signature .params) (fEnded .kept) stayed
   goes = (goes-ref 𝓤 H A W 3 0 tt (plain (λ _. T.the-row)), (goes-dropped 𝓤 H A W 3 (plain (λ _. u64)) yes (λ κs x f. refl), (goes-dropped 𝓤 H A W 3 (plain (λ _. u64)) yes (λ κs x f. refl), (goes-dropped 𝓤 H A W 3 (plain (λ _. u64)) yes (λ κs x f. refl), (goes-dropped 𝓤 H A W 3 (shrSliceOf (1 ∷ []) tt (plain (λ _. u8))) yes (λ κs x f. refl), (goes-gave-slice 𝓤 H A W 3 2 tt (plain (λ _. u8)), tt))))))
 
-  pub outer-meets : (𝓣 : Tables 𝓤 H) → Triple 𝓤 (𝓣 .C g) (Callee Gives 𝓤 H A) → Meets 𝓤 H A (fEnded .signature) (WpFn 𝓤 H (𝓣 .C) (𝓣 .Λ) (template g)) (closing 𝓤 H A fEnded (fClauses Tells 𝓤))
+  pub outer-meets : (𝓣 : Tables 𝓤 H) → Triple 𝓤 (𝓣 .C g) (Callee Says 𝓤 H A) → Meets 𝓤 H A (fEnded .signature) (WpFn 𝓤 H (𝓣 .C) (𝓣 .Λ) (template g)) (closing 𝓤 H A fEnded (fClauses Says 𝓤))
   outer-meets 𝓣 known =
-      walk-meets 𝓤 H A fEnded stayed W goes (fClauses Tells 𝓤) (WpFn 𝓤 H (𝓣 .C) (𝓣 .Λ) (template g)) (WpFn-mono 𝓤 H (W .laws) 𝓣 (template g)) (walks (𝓣 .C) (𝓣 .Λ) (fmOf 𝓤 H (W .laws) 𝓣) known)
+      walk-meets 𝓤 H A fEnded stayed W goes (fClauses Says 𝓤) (WpFn 𝓤 H (𝓣 .C) (𝓣 .Λ) (template g)) (WpFn-mono 𝓤 H (W .laws) 𝓣 (template g)) (walks (𝓣 .C) (𝓣 .Λ) (fmOf 𝓤 H (W .laws) 𝓣) known)

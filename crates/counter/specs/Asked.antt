@@ -8,17 +8,17 @@ use Rattle.desk.specs.declared.Opening.{Opening}
 use Rattle.desk.specs.declared.Ask.{Ask}
 use Rattle.desk.specs.declared.Direction.the-variants.{Write, Read}
 
-abbrev pub keyOf : ℕ → ℕ → Key
-keyOf school class = record { school = school; class = class }
+abbrev pub asKey : ℕ → ℕ → Key
+asKey school class = record { school = school; class = class }
 
 abbrev pub toWrite : ℕ → ℕ → ℕ → Opening
-toWrite school class width = record { key = keyOf school class; direction = Write; width = width }
+toWrite school class width = record { key = asKey school class; direction = Write; width = width }
 
 abbrev pub toRead : ℕ → ℕ → ℕ → Opening
-toRead school class width = record { key = keyOf school class; direction = Read; width = width }
+toRead school class width = record { key = asKey school class; direction = Read; width = width }
 
 abbrev pub askOf : ℕ → ℕ → ℕ → Ask
-askOf school class rows = record { key = keyOf school class; rows = rows }
+askOf school class rows = record { key = asKey school class; rows = rows }
 
 -- what a call over the lent desk came to: its answer, and the desk that it left
 abbrev pub outcomeOf : Answer → Desk → Outcome

@@ -1,8 +1,10 @@
 // The desk lent for one call: out, the call by value, back. Other languages see these calls and no others.
 ghost use mathlib.Core.Path.{_≡_};
 ghost use Rattle.desk.specs.Places.{emptyDesk};
-ghost use Rattle.desk.specs.Calls.{openSpec, closeSpec, abandonSpec, dropSpec, lookSpec, lookLent, writeSpec, writeLent, ReadOutcome};
-ghost use Rattle.counter.specs.Asked.{keyOf, toWrite, toRead, askOf, outcomeOf};
+ghost use mathlib.Core.List.{[]};
+ghost use Rattle.desk.specs.Calls.{opens, writes, reads, closes, abandons, drops, looks};
+ghost use Rattle.desk.specs.Allowed.{Allowed};
+ghost use Rattle.counter.specs.Asked.{asKey, toWrite, toRead, askOf, outcomeOf};
 use desk::Answer;
 use desk::Ask;
 use desk::Desk;
@@ -13,7 +15,7 @@ use desk::Outcome;
 
 // ---- the calls by value, with numbers for what is asked: other languages hand over no records
 fn closed(d: Desk, school: u64, class: u64) -> Outcome
-    ensures { λ r. ⌜ r ≡ closeSpec d (keyOf school class) ⌝ }
+    ensures { λ r. ⌜ Allowed d (closes (asKey school class)) r [] ⌝ }
 {
     let key = Key {
         school: school,
@@ -23,7 +25,7 @@ fn closed(d: Desk, school: u64, class: u64) -> Outcome
 }
 
 fn abandoned(d: Desk, school: u64, class: u64) -> Outcome
-    ensures { λ r. ⌜ r ≡ abandonSpec d (keyOf school class) ⌝ }
+    ensures { λ r. ⌜ Allowed d (abandons (asKey school class)) r [] ⌝ }
 {
     let key = Key {
         school: school,
@@ -33,7 +35,7 @@ fn abandoned(d: Desk, school: u64, class: u64) -> Outcome
 }
 
 fn forgotten(d: Desk, school: u64, class: u64) -> Outcome
-    ensures { λ r. ⌜ r ≡ dropSpec d (keyOf school class) ⌝ }
+    ensures { λ r. ⌜ Allowed d (drops (asKey school class)) r [] ⌝ }
 {
     let key = Key {
         school: school,
@@ -43,7 +45,7 @@ fn forgotten(d: Desk, school: u64, class: u64) -> Outcome
 }
 
 fn opened_to_write(d: Desk, school: u64, class: u64, width: u64) -> Outcome
-    ensures { λ r. ⌜ r ≡ openSpec d (toWrite school class width) ⌝ }
+    ensures { λ r. ⌜ Allowed d (opens (toWrite school class width)) r [] ⌝ }
 {
     let ask = Opening {
         key: Key {
@@ -57,7 +59,7 @@ fn opened_to_write(d: Desk, school: u64, class: u64, width: u64) -> Outcome
 }
 
 fn opened_to_read(d: Desk, school: u64, class: u64, width: u64) -> Outcome
-    ensures { λ r. ⌜ r ≡ openSpec d (toRead school class width) ⌝ }
+    ensures { λ r. ⌜ Allowed d (opens (toRead school class width)) r [] ⌝ }
 {
     let ask = Opening {
         key: Key {
@@ -71,7 +73,7 @@ fn opened_to_read(d: Desk, school: u64, class: u64, width: u64) -> Outcome
 }
 
 fn looked(d: Desk, school: u64, class: u64, out: &mut [u8]) -> Outcome
-    ensures { λ r. ⌜ (r ≡ lookSpec d (keyOf school class) (now (out .entry))) × (now (out .exit) ≡ lookLent d (keyOf school class) (now (out .entry))) ⌝ }
+    ensures { λ r. ⌜ Allowed d (looks (asKey school class) (now (out .entry))) r (now (out .exit)) ⌝ }
 {
     let key = Key {
         school: school,
@@ -81,7 +83,7 @@ fn looked(d: Desk, school: u64, class: u64, out: &mut [u8]) -> Outcome
 }
 
 fn written(d: Desk, school: u64, class: u64, rows: u64, pels: &[u8], out: &mut [u8]) -> Outcome
-    ensures { λ r. ⌜ (r ≡ writeSpec d (askOf school class rows) (now (pels .entry)) (now (out .entry))) × (now (out .exit) ≡ writeLent d (askOf school class rows) (now (pels .entry)) (now (out .entry))) ⌝ }
+    ensures { λ r. ⌜ Allowed d (writes (askOf school class rows) (now (pels .entry)) (now (out .entry))) r (now (out .exit)) ⌝ }
 {
     let ask = Ask {
         key: Key {
@@ -90,11 +92,11 @@ fn written(d: Desk, school: u64, class: u64, rows: u64, pels: &[u8], out: &mut [
         },
         rows: rows,
     };
-    calls::write(d, ask, pels, out)
+    bands::write(d, ask, pels, out)
 }
 
 fn read(d: Desk, school: u64, class: u64, rows: u64, code: &[u8], out: &mut [u8]) -> Outcome
-    ensures { λ r. ⌜ ReadOutcome d (askOf school class rows) (now (code .entry)) (now (out .entry)) r (now (out .exit)) ⌝ }
+    ensures { λ r. ⌜ Allowed d (reads (askOf school class rows) (now (code .entry)) (now (out .entry))) r (now (out .exit)) ⌝ }
 {
     let ask = Ask {
         key: Key {
@@ -103,7 +105,14 @@ fn read(d: Desk, school: u64, class: u64, rows: u64, code: &[u8], out: &mut [u8]
         },
         rows: rows,
     };
-    calls::read(d, ask, code, out)
+    bands::read(d, ask, code, out)
+}
+
+// An empty desk.
+fn emptied() -> Desk
+    ensures { λ r. ⌜ r ≡ emptyDesk ⌝ }
+{
+    desk::empty_desk()
 }
 
 // ---- the calls over the lent desk
@@ -119,13 +128,13 @@ pub extern "C" fn siftpebble_desk_bytes() -> usize
 pub extern "C" fn siftpebble_empty(desk: &mut Desk)
     ensures { λ _. ⌜ now (desk .exit) ≡ emptyDesk ⌝ }
 {
-    let d = desk::empty_desk();
+    let d = emptied();
     *desk = d;
 }
 
 #[no_mangle]
 pub extern "C" fn siftpebble_close(desk: &mut Desk, school: u64, class: u64) -> Answer
-    ensures { λ r. ⌜ (r ≡ closeSpec (now (desk .entry)) (keyOf school class) .answer) × (now (desk .exit) ≡ closeSpec (now (desk .entry)) (keyOf school class) .desk) ⌝ }
+    ensures { λ r. ⌜ Allowed (now (desk .entry)) (closes (asKey school class)) (outcomeOf r (now (desk .exit))) [] ⌝ }
 {
     let r = closed(*desk, school, class);
     *desk = r.desk;
@@ -134,7 +143,7 @@ pub extern "C" fn siftpebble_close(desk: &mut Desk, school: u64, class: u64) -> 
 
 #[no_mangle]
 pub extern "C" fn siftpebble_abandon(desk: &mut Desk, school: u64, class: u64) -> Answer
-    ensures { λ r. ⌜ (r ≡ abandonSpec (now (desk .entry)) (keyOf school class) .answer) × (now (desk .exit) ≡ abandonSpec (now (desk .entry)) (keyOf school class) .desk) ⌝ }
+    ensures { λ r. ⌜ Allowed (now (desk .entry)) (abandons (asKey school class)) (outcomeOf r (now (desk .exit))) [] ⌝ }
 {
     let r = abandoned(*desk, school, class);
     *desk = r.desk;
@@ -143,7 +152,7 @@ pub extern "C" fn siftpebble_abandon(desk: &mut Desk, school: u64, class: u64) -
 
 #[no_mangle]
 pub extern "C" fn siftpebble_drop(desk: &mut Desk, school: u64, class: u64) -> Answer
-    ensures { λ r. ⌜ (r ≡ dropSpec (now (desk .entry)) (keyOf school class) .answer) × (now (desk .exit) ≡ dropSpec (now (desk .entry)) (keyOf school class) .desk) ⌝ }
+    ensures { λ r. ⌜ Allowed (now (desk .entry)) (drops (asKey school class)) (outcomeOf r (now (desk .exit))) [] ⌝ }
 {
     let r = forgotten(*desk, school, class);
     *desk = r.desk;
@@ -157,7 +166,7 @@ pub extern "C" fn siftpebble_open_write(
     class: u64,
     width: u64,
 ) -> Answer
-    ensures { λ r. ⌜ (r ≡ openSpec (now (desk .entry)) (toWrite school class width) .answer) × (now (desk .exit) ≡ openSpec (now (desk .entry)) (toWrite school class width) .desk) ⌝ }
+    ensures { λ r. ⌜ Allowed (now (desk .entry)) (opens (toWrite school class width)) (outcomeOf r (now (desk .exit))) [] ⌝ }
 {
     let r = opened_to_write(*desk, school, class, width);
     *desk = r.desk;
@@ -171,7 +180,7 @@ pub extern "C" fn siftpebble_open_read(
     class: u64,
     width: u64,
 ) -> Answer
-    ensures { λ r. ⌜ (r ≡ openSpec (now (desk .entry)) (toRead school class width) .answer) × (now (desk .exit) ≡ openSpec (now (desk .entry)) (toRead school class width) .desk) ⌝ }
+    ensures { λ r. ⌜ Allowed (now (desk .entry)) (opens (toRead school class width)) (outcomeOf r (now (desk .exit))) [] ⌝ }
 {
     let r = opened_to_read(*desk, school, class, width);
     *desk = r.desk;
@@ -185,7 +194,7 @@ pub extern "C" fn siftpebble_look(
     class: u64,
     out: &mut [u8],
 ) -> Answer
-    ensures { λ r. ⌜ (r ≡ lookSpec (now (desk .entry)) (keyOf school class) (now (out .entry)) .answer) × (now (desk .exit) ≡ lookSpec (now (desk .entry)) (keyOf school class) (now (out .entry)) .desk) × (now (out .exit) ≡ lookLent (now (desk .entry)) (keyOf school class) (now (out .entry))) ⌝ }
+    ensures { λ r. ⌜ Allowed (now (desk .entry)) (looks (asKey school class) (now (out .entry))) (outcomeOf r (now (desk .exit))) (now (out .exit)) ⌝ }
 {
     let r = looked(*desk, school, class, out);
     *desk = r.desk;
@@ -201,7 +210,7 @@ pub extern "C" fn siftpebble_write(
     pels: &[u8],
     out: &mut [u8],
 ) -> Answer
-    ensures { λ r. ⌜ (r ≡ writeSpec (now (desk .entry)) (askOf school class rows) (now (pels .entry)) (now (out .entry)) .answer) × (now (desk .exit) ≡ writeSpec (now (desk .entry)) (askOf school class rows) (now (pels .entry)) (now (out .entry)) .desk) × (now (out .exit) ≡ writeLent (now (desk .entry)) (askOf school class rows) (now (pels .entry)) (now (out .entry))) ⌝ }
+    ensures { λ r. ⌜ Allowed (now (desk .entry)) (writes (askOf school class rows) (now (pels .entry)) (now (out .entry))) (outcomeOf r (now (desk .exit))) (now (out .exit)) ⌝ }
 {
     let r = written(*desk, school, class, rows, pels, out);
     *desk = r.desk;
@@ -217,7 +226,7 @@ pub extern "C" fn siftpebble_read(
     code: &[u8],
     out: &mut [u8],
 ) -> Answer
-    ensures { λ r. ⌜ ReadOutcome (now (desk .entry)) (askOf school class rows) (now (code .entry)) (now (out .entry)) (outcomeOf r (now (desk .exit))) (now (out .exit)) ⌝ }
+    ensures { λ r. ⌜ Allowed (now (desk .entry)) (reads (askOf school class rows) (now (code .entry)) (now (out .entry))) (outcomeOf r (now (desk .exit))) (now (out .exit)) ⌝ }
 {
     let r = read(*desk, school, class, rows, code, out);
     *desk = r.desk;

@@ -31,7 +31,7 @@ fn line(name: &[u8], d: Desk, code: &[u8]) -> Desk {
         key: the_key(),
         rows: 1,
     };
-    let read = calls::read(d, ask, code, &mut out);
+    let read = bands::read(d, ask, code, &mut out);
     lines::put_text(name);
     lines::put_bytes(code);
     lines::put_answer(read.answer);

@@ -4,14 +4,17 @@ use mathlib.Core.List.{List, [], _∷_}
 use Prim.Native.Nat.{ℕ}
 use Rattle.turns.specs.Service.{Entry, calls}
 use Rattle.turns.specs.Serial.{serial}
+use Rattle.reader.specs.Reading.{reading}
 use Rattle.desk.specs.declared.Key.{Key}
 use Rattle.desk.specs.declared.Desk.{Desk}
 use Rattle.desk.specs.declared.Outcome.{Outcome}
 use Rattle.desk.specs.Places.{emptyDesk}
-use Rattle.serial.specs.Run.{Call, Step, calling, stepOf, entryOf, step, run, after, learnedTable}
+use Rattle.desk.specs.Calls.{Call}
+use Rattle.desk.specs.Standing.{learnedTable}
+use Rattle.desk.specs.Allowed.{Allowed}
+use Rattle.serial.specs.Run.{Step, calling, stepOf, entryOf, step, run, after}
 use Rattle.serial.specs.Demand3.{Demand3, left}
-use Rattle.demands.specs.Reading.{reading}
-use Rattle.demands.specs.Certain.{Allowed, as-run}
+use Rattle.demands.specs.Certain.{as-run}
 use Rattle.demands.specs.AnyOrder.{any-order}
 
 pub data Ran : Desk → List (Entry calling) → Desk → Type 0 where

@@ -1,1 +1,1 @@
-// The demands joined: what is found in a code, that a read has one outcome, and any order of turns. All of it stands in specs/.
+// The three demands of what the calls' contracts allow, and one run of turns worked out. All of it stands in specs/.

@@ -8,10 +8,13 @@ use mathlib.Core.List.{List}
 use lib.Dec.{eqb}
 use lib.ListN.{length, drop, getD, drop-of-length-le}
 use lib.Seq.{drop-cons}
+use Rattle.ground.specs.Options.{given}
 use Rattle.desk.specs.declared.Found.{Found}
 use Rattle.desk.specs.declared.Found.the-variants.{At, Nothing}
 use Rattle.desk.specs.declared.Key.{Key}
-use Rattle.desk.specs.Places.{isUsed, findBy}
+use Rattle.desk.specs.declared.Desk.{Desk}
+use Rattle.desk.specs.Places.{isUsed, findBy, isFound}
+use Rattle.desk.specs.Standing.{pageBy, tableBy}
 
 -- an index that was found is within
 abbrev pub foundBelow : ℕ → Found → Type 0
@@ -49,3 +52,12 @@ module _ {A : Type 0} {test : A → Bool} {xs : List A} {n i : ℕ} (s : Searchi
     pub found-later : test (getD xs i none) ≡ false → Searching test xs n (i + 1)
     unfolding findBy
     found-later y = record { size = s .size; rest = rw add-one (rw (drop-cons xs i none within, y) at (s .rest)) }
+
+-- what was found, as an option
+pub found-page : (d : Desk) (f : Found) → given (pageBy d f) ≡ isFound f
+found-page d (At i) = refl
+found-page d Nothing = refl
+
+pub found-table : (d : Desk) (f : Found) → given (tableBy d f) ≡ isFound f
+found-table d (At i) = refl
+found-table d Nothing = refl

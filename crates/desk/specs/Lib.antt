@@ -1,7 +1,14 @@
 pub mod Places
-pub mod Finding
 pub mod Lawful
 pub mod OpenPages
 pub mod Refusals
 pub mod Calls
-pub mod Looking
+pub mod Standing
+pub mod Finding
+pub mod Tests
+pub mod Effects
+pub mod Changes
+pub mod Allowed
+pub mod Once
+pub mod Passed
+pub mod Kinds

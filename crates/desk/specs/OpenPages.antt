@@ -1,20 +1,21 @@
 -- An open page of a lawful desk has a lawful width and table. Assumes nothing.
-use mathlib.Core.Path.{_≡_, refl, _∙_}
+use mathlib.Core.Path.{_≡_, refl, sym, _∙_}
 use Prim.Native.Nat.{ℕ, zero, suc, _-_, _≤_}
 use native.Mathlib.Omega.{arith}
-use mathlib.Core.Bool.{Bool, true, false, cond, _&&_}
+use mathlib.Core.Bool.{Bool, true, false, cond, not, _&&_, _||_}
 use mathlib.Core.List.{List, [], _∷_}
-use lib.Dec.{leb}
+use lib.Dec.{eqb, leb}
 use lib.ListN.{getD}
-use borrow.Author.Tests.{leb-true}
+use borrow.Author.Tests.{leb-true, eqb-true}
+use Rattle.ground.specs.Bools.{no-way, both}
 use Rattle.estimate.specs.Estimate.{indexOf, LawfulTable}
 use Rattle.band.specs.Band.{maxWidth}
 use Rattle.desk.specs.declared.Key.{Key}
 use Rattle.desk.specs.declared.Page.{Page}
 use Rattle.desk.specs.declared.Desk.{Desk}
 use Rattle.desk.specs.declared.Found.the-variants.{At}
-use Rattle.desk.specs.Places.{isUsed, isPageOf, findBy, pageFound, noPage}
-use Rattle.desk.specs.Lawful.{within, all, lawfulKey, lawfulTable, noStray, lawfulPage, lawful}
+use Rattle.desk.specs.Places.{isUsed, isPageOf, isPlaceOf, findBy, isFound, pageFound, placeFound, noPage}
+use Rattle.desk.specs.Lawful.{within, all, any, lawfulKey, lawfulTable, noStray, lawfulPage, lawfulPlace, apart, samePages, samePlaces, pageHasPlace, placeHasPage, lawful}
 
 -- both tests hold
 pub both-left : (a b : Bool) → (a && b) ≡ true → a ≡ true
@@ -41,7 +42,8 @@ module _ {A : Type 0} (test law : A → Bool) (none : A) where
       at : (n : ℕ) → j - b ≡ n → Good (getD (x ∷ xs) n none) → Good (getD (x ∷ xs) (j - b) none)
       at n e g = rw e g
 
-      go : (y : Bool) → test x ≡ y → cond y (At b) (findBy test xs (suc b)) ≡ At j → (findBy test xs (suc b) ≡ At j → (suc b ≤ j) × Good (getD xs (j - suc b) none))
+      go : (y : Bool) → test x ≡ y → cond y (At b) (findBy test xs (suc b)) ≡ At j → (findBy test xs (suc b) ≡ At j → (suc b ≤ j) × Good (getD xs
+          (j - suc b) none))
           → (b ≤ j) × Good (getD (x ∷ xs) (j - b) none)
       go true t f r = let z : b ≡ j = cc in (omega arith, at 0 (omega arith) (both-left (law x) (all law xs) l, t))
       go false t f r = let z : suc b ≤ j = r f .0 in (omega arith, at (suc (j - suc b)) (omega arith) (r f .1))
@@ -68,9 +70,11 @@ pub record OpenPage (p : Page) : Type 0 where
 
 page-open : (p : Page) → lawfulPage p ≡ true → isUsed (p .state) ≡ true → OpenPage p
 unfolding lawfulPage
-page-open p l u = parts (within 1 (p .width) maxWidth) (lawfulTable (p .table .entries)) (noStray (p .width) (p .last)) (leb (p .state) 2) (lawfulKey (p .school) (p .class)) refl refl (rw u at l)
+page-open p l u = parts (within 1 (p .width) maxWidth) (lawfulTable (p .table .entries)) (noStray (p .width) (p .last)) (leb (p .state) 2)
+    (lawfulKey (p .school) (p .class)) refl refl (rw u at l)
   where
-    parts : (w t s a k : Bool) → within 1 (p .width) maxWidth ≡ w → lawfulTable (p .table .entries) ≡ t → (a && (k && (w && (t && s)))) ≡ true → OpenPage p
+    parts : (w t s a k : Bool) → within 1 (p .width) maxWidth ≡ w → lawfulTable (p .table .entries) ≡ t → (a && (k && (w && (t && s)))) ≡ true
+        → OpenPage p
     parts w t s a k p q e =
         let m = both-right k (w && (t && s)) (both-right a (k && (w && (t && s))) e) in
         let x = within-both 1 _ maxWidth (p ∙ both-left w (t && s) m) in
@@ -81,3 +85,35 @@ unfolding lawful
 open-page d k i l f =
     let a = at-found (isPageOf k) lawfulPage noPage (d .pages) i (both-left _ _ (both-left _ _ l)) f in
     page-open (getD (d .pages) i noPage) (a .0) (both-left _ _ (a .1))
+
+-- ---- an open page has its place
+any-found : {A : Type 0} (test : A → Bool) (xs : List A) (b : ℕ) → any test xs ≡ true → isFound (findBy test xs b) ≡ true
+unfolding any findBy
+any-found test [] b h = no-way (sym h)
+any-found test (x ∷ xs) b h = go (test x) h (any-found test xs (suc b))
+  where
+    go : (y : Bool) → (y || any test xs) ≡ true → (any test xs ≡ true → isFound (findBy test xs (suc b)) ≡ true) → isFound (cond y (At b)
+        (findBy test xs (suc b))) ≡ true
+    go true e ih = refl
+    go false e ih = ih e
+
+pub page-placed : (d : Desk) (k : Key) (i : ℕ) → lawful d ≡ true → pageFound d k ≡ At i → isFound (placeFound d k) ≡ true
+unfolding lawful
+page-placed d k i l f =
+    let a = at-found (isPageOf k) (pageHasPlace (d .places)) noPage (d .pages) i
+    (third (all lawfulPage (d .pages) && all lawfulPlace (d .places)) (apart samePages (d .pages) && apart samePlaces (d .places)) (all
+    (pageHasPlace (d .places)) (d .pages))
+    (all (placeHasPage (d .pages)) (d .places)) l) f in
+    let p : Page = getD (d .pages) i noPage in
+    let u = both (isUsed (p .state)) (eqb (p .school) (k .school) && eqb (p .class) (k .class)) (a .1) in
+    let m = both (eqb (p .school) (k .school)) (eqb (p .class) (k .class)) (u .1) in
+    any-found (isPlaceOf k) (d .places) 0 (has (isUsed (p .state)) (u .0) (p .school) (p .class) (eqb-true (p .school) (k .school) (m .0)) (eqb-true
+    (p .class) (k .class) (m .1)) (a .0))
+  where
+    third : (a b c e : Bool) → (a && (b && (c && e))) ≡ true → c ≡ true
+    third a b c e h = both-left c e (both-right b (c && e) (both-right a (b && (c && e)) h))
+
+    has : (y : Bool) → y ≡ true → (school class : ℕ) → school ≡ k .school → class ≡ k .class
+        → (not y || any (isPlaceOf (record { school = school; class = class })) (d .places)) ≡ true → any (isPlaceOf k) (d .places) ≡ true
+    has false u s c e f h = no-way (sym u)
+    has true u s c e f h = rw (e, f) at h

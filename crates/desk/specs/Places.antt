@@ -47,11 +47,14 @@ unfoldable pub emptyDesk : Desk
 emptyDesk = record { pages = replicate maxPages unusedPage; places = replicate maxPlaces freePlace }
 
 -- what an array's element is past its end
+abbrev pub noTable : Table
+noTable = record { entries = [] }
+
 abbrev pub noPage : Page
-noPage = record { state = 0; school = 0; class = 0; width = 0; table = record { entries = [] }; last = [] }
+noPage = record { state = 0; school = 0; class = 0; width = 0; table = noTable; last = [] }
 
 abbrev pub noPlace : Place
-noPlace = record { state = 0; school = 0; class = 0; table = record { entries = [] } }
+noPlace = record { state = 0; school = 0; class = 0; table = noTable }
 
 -- ---- whose they are: the school and the class
 abbrev pub isPageOf : Key → Page → Bool

@@ -3,6 +3,7 @@ ghost use mathlib.Core.Path.{_≡_};
 ghost use Prim.Native.Nat.{_<_};
 ghost use Rattle.desk.specs.Places.{isPageOf, isPlaceOf, isTableOf, isFreePage, isFreePlace, findBy, isFound, unusedPage, freePlace, emptyDesk, withPlace};
 ghost use Rattle.desk.specs.Finding.{foundBelow, isUnder};
+ghost use Rattle.desk.specs.Allowed.{done, refused};
 use estimate::Table;
 
 pub struct Key {
@@ -147,13 +148,13 @@ pub fn find_table(places: [Place; 8], key: Key) -> Found
 pub fn free_page(pages: [Page; 4]) -> Found
     ensures { λ r. ⌜ (r ≡ findBy isFreePage pages 0) × foundBelow 4 r ⌝ }
 {
-    let mut i: usize = 0;
-    while i < 4 {
-        let p = pages[i];
+    let mut slot: usize = 0;
+    while slot < 4 {
+        let p = pages[slot];
         if p.state == 0 {
-            return Found::At(i);
+            return Found::At(slot);
         }
-        i += 1;
+        slot += 1;
     }
     Found::Nothing
 }
@@ -235,4 +236,32 @@ pub fn with_place(d: Desk, found: Found, p: Place) -> Desk
     let mut next = d;
     next.places[i] = p;
     next
+}
+
+// A refusal: its number, and the desk as it was.
+pub fn refused(n: u64, d: Desk) -> Outcome
+    ensures { λ r. ⌜ r ≡ refused n d ⌝ }
+{
+    Outcome {
+        answer: Answer {
+            number: n,
+            length: 0,
+            shifts: 0,
+        },
+        desk: d,
+    }
+}
+
+// An accepted call: its length, S, and the desk after it.
+pub fn done(len: u64, shifts: u64, d: Desk) -> Outcome
+    ensures { λ r. ⌜ r ≡ done len shifts d ⌝ }
+{
+    Outcome {
+        answer: Answer {
+            number: 0,
+            length: len,
+            shifts: shifts,
+        },
+        desk: d,
+    }
 }

@@ -1,3 +1,4 @@
 pub mod Tests
 pub mod Bools
+pub mod Options
 pub mod Tables

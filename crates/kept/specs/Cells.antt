@@ -1,10 +1,10 @@
--- What stands under a key, and what the desk finds, read from it. Assumes nothing.
+-- What stands under a key, and what the desk finds there. Assumes nothing.
 use mathlib.Core.Path.{_≡_, refl, sym, ap, _∙_}
 use mathlib.Core.Bool.{true}
-use mathlib.Core.List.{[]}
 use mathlib.Core.Option.{Option, some, none}
+use Rattle.ground.specs.Bools.{no-way, both}
+use Rattle.ground.specs.Options.{given, mapped}
 use Rattle.turns.specs.Office.{Cell}
-use Rattle.turns.specs.Desk.{given}
 use Rattle.turns.specs.Slots.{free}
 use Rattle.turns.specs.Shelves.{cellAt}
 use Rattle.estimate.specs.declared.Table.{Table}
@@ -12,45 +12,48 @@ use Rattle.desk.specs.declared.Key.{Key}
 use Rattle.desk.specs.declared.Page.{Page}
 use Rattle.desk.specs.declared.Place.{Place}
 use Rattle.desk.specs.declared.Desk.{Desk}
-use Rattle.desk.specs.Places.{isUsed, isLearned, noPage, noPlace, isPageOf, isTableOf, isFreePage, isFreePlace, pageFound, tableFound, freePageFound, freePlaceFound, isFound, pageAt, placeAt}
+use Rattle.desk.specs.declared.Found.{Found}
+use Rattle.desk.specs.declared.Found.the-variants.{At, Nothing}
+use Rattle.desk.specs.Places.{isUsed, isLearned, noPage, noPlace, isPageOf, isTableOf, isFreePage, isFreePlace, pageFound, tableFound, freePageFound, freePlaceFound, isFound}
 use Rattle.desk.specs.Lawful.{lawfulPage, lawfulPlace}
-use Rattle.kept.specs.Lists.{pick, pick-passes, pick-all, found-given, page-at, place-at}
-use Rattle.turns.specs.Base.{orElse}
-use Rattle.ground.specs.Bools.{no-way, both}
-use Rattle.kept.specs.View.{sameKey, K, pageKey, placeKey, shelves, page-read, mapped, page-free, place-free, table-read, given-mapped}
+use Rattle.desk.specs.Finding.{found-page, found-table}
+use Rattle.desk.specs.Standing.{pageBy, tableBy, openPage, learnedTable}
+use Rattle.kept.specs.Lists.{pick, pick-passes, pick-all, found-given, valueAt, value-found}
+use Rattle.kept.specs.View.{sameKey, K, pageKey, placeKey, shelves, page-read, page-free, place-free, table-read}
 use Rattle.kept.specs.Sound.{Sound}
 
 -- what stands under a key: the learned table or none, the open page or none
 abbrev pub cellOf : Desk → Key → Cell Table Page
 cellOf d k = cellAt K Table Page (shelves d) k
 
-abbrev pub noTable : Table
-noTable = record { entries = [] }
-
 module _ (d : Desk) (s : Sound d) (k : Key) where
-  page-is : cellOf d k .page ≡ pick (isPageOf k) (d .pages)
-  unfolding shelves
-  page-is = page-read k (d .pages)
+  page-pick : openPage d k ≡ pick (isPageOf k) (d .pages)
+  page-pick = go (pageFound d k) ∙ value-found (isPageOf k) noPage (d .pages)
+    where
+      go : (f : Found) → pageBy d f ≡ valueAt f (d .pages) noPage
+      go (At i) = refl
+      go Nothing = refl
 
-  learned-is : cellOf d k .learned ≡ mapped (λ (q : Place). q .table) (pick (isTableOf k) (d .places))
+  table-pick : learnedTable d k ≡ mapped (λ (q : Place). q .table) (pick (isTableOf k) (d .places))
+  table-pick = go (tableFound d k) ∙ ap (mapped (λ (q : Place). q .table)) (value-found (isTableOf k) noPlace (d .places))
+    where
+      go : (f : Found) → tableBy d f ≡ mapped (λ (q : Place). q .table) (valueAt f (d .places) noPlace)
+      go (At i) = refl
+      go Nothing = refl
+
+  pub page-is : openPage d k ≡ cellOf d k .page
   unfolding shelves
-  learned-is = table-read k (d .places) (s .fitting .lone-places)
+  page-is = page-pick ∙ sym (page-read k (d .pages))
+
+  pub learned-is : learnedTable d k ≡ cellOf d k .learned
+  unfolding shelves
+  learned-is = table-pick ∙ sym (table-read k (d .places) (s .fitting .lone-places))
 
   pub page-found : isFound (pageFound d k) ≡ given (cellOf d k .page)
-  page-found = found-given (isPageOf k) (d .pages) 0 ∙ ap given (sym page-is)
-
-  pub page-there : pageAt d (pageFound d k) ≡ orElse (cellOf d k .page) noPage
-  page-there = page-at d (isPageOf k) ∙ ap (λ (o : Option Page). orElse o noPage) (sym page-is)
+  page-found = sym (found-page d (pageFound d k)) ∙ ap given page-is
 
   pub table-found : isFound (tableFound d k) ≡ given (cellOf d k .learned)
-  table-found = found-given (isTableOf k) (d .places) 0 ∙ sym (given-mapped (λ (q : Place). q .table) (pick (isTableOf k) (d .places))) ∙ ap given (sym learned-is)
-
-  pub table-there : placeAt d (tableFound d k) .table ≡ orElse (cellOf d k .learned) noTable
-  table-there = ap (λ (q : Place). q .table) (place-at d (isTableOf k)) ∙ go (pick (isTableOf k) (d .places)) ∙ ap (λ (o : Option Table). orElse o noTable) (sym learned-is)
-    where
-      go : (o : Option Place) → orElse o noPlace .table ≡ orElse (mapped (λ (q : Place). q .table) o) noTable
-      go none = refl
-      go (some q) = refl
+  table-found = sym (found-table d (tableFound d k)) ∙ ap given learned-is
 
   pub page-free-found : isFound (freePageFound d) ≡ free K Page (shelves d .pageSlots)
   unfolding shelves
@@ -61,16 +64,23 @@ module _ (d : Desk) (s : Sound d) (k : Key) where
   place-free-found = found-given isFreePlace (d .places) 0 ∙ sym (place-free (d .places))
 
   -- ---- the open page and the learned table are lawful
-  pub page-own : (p : Page) → cellOf d k .page ≡ some p → (isUsed (p .state) ≡ true) × (sameKey (pageKey p) k ≡ true) × (lawfulPage p ≡ true)
+  pub page-own : (p : Page) → openPage d k ≡ some p → (isUsed (p .state) ≡ true) × (sameKey (pageKey p) k ≡ true) × (lawfulPage p ≡ true)
   page-own p e =
-      let f : pick (isPageOf k) (d .pages) ≡ some p = sym page-is ∙ e in
+      let f : pick (isPageOf k) (d .pages) ≡ some p = sym page-pick ∙ e in
       let u = both (isUsed (p .state)) (sameKey (pageKey p) k) (pick-passes (isPageOf k) (d .pages) p f) in
       (u .0, u .1, pick-all lawfulPage (isPageOf k) (d .pages) p (s .pages-lawful) f)
 
-  pub place-own : isFound (tableFound d k) ≡ true → (q : Place) × (placeAt d (tableFound d k) ≡ q) × (isLearned (q .state) ≡ true) × (lawfulPlace q ≡ true)
-  place-own h = go (pick (isTableOf k) (d .places)) refl (sym (found-given (isTableOf k) (d .places) 0) ∙ h)
+  pub place-own : (t : Table) → learnedTable d k ≡ some t → (q : Place) × (q .table ≡ t) × (isLearned (q .state) ≡ true) × (lawfulPlace q ≡ true)
+  place-own t h = go (pick (isTableOf k) (d .places)) refl (sym table-pick ∙ h)
     where
-      go : (o : Option Place) → pick (isTableOf k) (d .places) ≡ o → given o ≡ true → (q : Place) × (placeAt d (tableFound d k) ≡ q) × (isLearned (q .state) ≡ true) × (lawfulPlace q ≡ true)
-      go none f g = no-way (sym g)
+      go : (o : Option Place) → pick (isTableOf k) (d .places) ≡ o → mapped (λ (q : Place). q .table) o ≡ some t
+          → (q : Place) × (q .table ≡ t) × (isLearned (q .state) ≡ true) × (lawfulPlace q ≡ true)
+      go none f g = no-way (ap given (sym g))
       go (some q) f g =
-          (q, place-at d (isTableOf k) ∙ ap (λ (o : Option Place). orElse o noPlace) f, both (isLearned (q .state)) (sameKey (placeKey q) k) (pick-passes (isTableOf k) (d .places) q f) .0, pick-all lawfulPlace (isTableOf k) (d .places) q (s .places-lawful) f)
+          let e : q .table ≡ t = cc in (
+            q,
+            e,
+            both (isLearned (q .state)) (sameKey (placeKey q) k) (pick-passes (isTableOf k) (d .places) q f) .0,
+            pick-all lawfulPlace
+                (isTableOf k) (d .places) q (s .places-lawful) f,
+          )

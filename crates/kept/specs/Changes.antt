@@ -3,8 +3,8 @@ use mathlib.Core.Path.{_≡_, refl, sym, ap, _∙_}
 use mathlib.Core.Bool.{true, false, not, _&&_}
 use mathlib.Core.List.{List, map}
 use mathlib.Core.Option.{Option, some, none}
+use Rattle.ground.specs.Options.{given, given-mapped}
 use Rattle.turns.specs.Office.{Cell}
-use Rattle.turns.specs.Desk.{given}
 use Rattle.turns.specs.Slots.{Named, named, find, update}
 use Rattle.turns.specs.Rows.{atFirst, hasName, isFree, update-same, update-free, update-new, update-take}
 use Rattle.turns.specs.Shelves.{placeOf, slotStore, noSlot, noClassPlace}
@@ -13,10 +13,10 @@ use Rattle.desk.specs.declared.Key.{Key}
 use Rattle.desk.specs.declared.Page.{Page}
 use Rattle.desk.specs.declared.Place.{Place}
 use Rattle.desk.specs.declared.Desk.{Desk}
-use Rattle.desk.specs.Places.{unusedPage, freePlace, isPageOf, isPlaceOf, isTableOf, isFreePage, isFreePlace, tableFound, freePageFound, freePlaceFound, isFound}
-use Rattle.kept.specs.Lists.{found-given}
-use Rattle.ground.specs.Bools.{no-way, and-false}
-use Rattle.kept.specs.View.{K, viewPage, viewPlace, shelves, pages-first, places-first, pages-free, places-free, table-first}
+use Rattle.desk.specs.Places.{unusedPage, freePlace, isPageOf, isPlaceOf, isTableOf, isFreePage, isFreePlace, placeFound, tableFound, freePageFound, freePlaceFound, isFound}
+use Rattle.kept.specs.Lists.{pick, found-given}
+use Rattle.ground.specs.Bools.{no-way}
+use Rattle.kept.specs.View.{K, learnedIn, viewPage, viewPlace, shelves, place-read, pages-first, places-first, pages-free, places-free, table-first}
 use Rattle.kept.specs.Sound.{Sound}
 use Rattle.kept.specs.Cells.{cellOf, table-found, page-free-found, place-free-found}
 
@@ -83,33 +83,23 @@ module _ (d : Desk) (s : Sound d) (k : Key) where
   unfolding shelves slotStore
   store-by d′ y p q = λ i. record { pageSlots = p i; classPlaces = q i }
 
-  pub room-open : (y : Cell Table Page) → given (x .page) ≡ true → noSlot K Table Page (shelves d) k y ≡ false
-  unfolding noSlot
-  room-open y g = rw g
-
-  pub room-none : (y : Cell Table Page) → y .page ≡ none → noSlot K Table Page (shelves d) k y ≡ false
-  unfolding noSlot
-  room-none y e = rw (e, and-false (not (given (x .page))))
-
-  pub room-free : (y : Cell Table Page) → isFound (freePageFound d) ≡ true → noSlot K Table Page (shelves d) k y ≡ false
-  unfolding noSlot
-  room-free y g = rw (← page-free-found d s k, g) (and-false (not (given (x .page)) && given (y .page)))
-
   pub find-given : given (find K (Option Table) k (shelves d .classPlaces)) ≡ given (placeOf (x .learned) (x .page))
   unfolding shelves
   find-given = ap given fits-k
 
-  pub place-open : (y : Cell Table Page) → given (placeOf (x .learned) (x .page)) ≡ true → noClassPlace K Table Page (shelves d) k y ≡ false
-  unfolding noClassPlace
-  place-open y g = rw (find-given, g)
+  -- the class's place is found where it has a table or an open page
+  pub place-given : isFound (placeFound d k) ≡ given (placeOf (x .learned) (x .page))
+  place-given = found-given (isPlaceOf k) (d .places) 0 ∙ sym (given-mapped learnedIn (pick (isPlaceOf k) (d .places))) ∙ ap given (sym (place-read k (d .places)) ∙ fits-k)
 
-  pub place-none : (y : Cell Table Page) → placeOf (y .learned) (y .page) ≡ none → noClassPlace K Table Page (shelves d) k y ≡ false
-  unfolding noClassPlace
-  place-none y e = rw (e, and-false (not (given (find K (Option Table) k (shelves d .classPlaces)))))
+  -- what room a cell wants
+  pub slot-room : (y : Cell Table Page) → noSlot K Table Page (shelves d) k y ≡ ((not (given (x .page)) && given (y .page)) && not (isFound (freePageFound d)))
+  unfolding noSlot
+  slot-room y = rw (page-free-found d s k)
 
-  pub place-room : (y : Cell Table Page) → isFound (freePlaceFound d) ≡ true → noClassPlace K Table Page (shelves d) k y ≡ false
+  pub place-room : (y : Cell Table Page) → noClassPlace K Table Page (shelves d) k y
+      ≡ ((not (given (placeOf (x .learned) (x .page))) && given (placeOf (y .learned) (y .page))) && not (isFound (freePlaceFound d)))
   unfolding noClassPlace
-  place-room y g = rw (← place-free-found d s k, g) (and-false (not (given (find K (Option Table) k (shelves d .classPlaces))) && given (placeOf (y .learned) (y .page))))
+  place-room y = rw (find-given, place-free-found d s k)
 
   pub paged : (p : Option Page) (t : Option Table) → given p ≡ true → given (placeOf t p) ≡ true
   paged none t g = no-way (sym g)

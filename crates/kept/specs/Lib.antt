@@ -5,6 +5,7 @@ pub mod Bands
 pub mod Cells
 pub mod Changes
 pub mod Stored
-pub mod Passed
-pub mod Accepted
+pub mod Fair
+pub mod Room
+pub mod Law
 pub mod Kept

@@ -8,8 +8,7 @@ use Prim.Native.Nat.{ℕ, zero, suc}
 use native.Mathlib.Omega.{arith}
 use lib.Dec.{eqb, leb}
 use borrow.Author.Tests.{eqb-true, leb-true}
-use Rattle.turns.specs.Base.{none-given}
-use Rattle.turns.specs.Desk.{given}
+use Rattle.ground.specs.Options.{none-given, given, mapped, given-mapped}
 use Rattle.turns.specs.Slots.{find, Lone}
 use Rattle.turns.specs.Shelves.{join, placeOf, Fitting}
 use Rattle.estimate.specs.declared.Table.{Table}
@@ -21,7 +20,7 @@ use Rattle.desk.specs.Places.{isUsed, isLearned, isPageOf, isPlaceOf}
 use Rattle.desk.specs.Lawful.{all, any, apart, lawfulKey, lawfulTable, isZero, lawfulPage, lawfulPlace, samePages, samePlaces, pageHasPlace, placeHasPage, lawful}
 use Rattle.kept.specs.Lists.{pick, pick-all, pick-any, pick-passes}
 use Rattle.ground.specs.Bools.{no-way, both, and-true, not-false, or-true}
-use Rattle.kept.specs.View.{sameKey, key-self, key-only, K, pageKey, placeKey, viewPageBy, viewPage, learnedBy, learnedIn, viewPlaceBy, viewPlace, shelves, page-read, place-read, mapped, given-mapped}
+use Rattle.kept.specs.View.{sameKey, key-self, key-only, K, pageKey, placeKey, viewPageBy, viewPage, learnedBy, learnedIn, viewPlaceBy, viewPlace, shelves, page-read, place-read}
 
 pub record Sound (d : Desk) : Type 0 where
   pub pages-lawful : all lawfulPage (d .pages) ≡ true

@@ -6,8 +6,8 @@ use mathlib.Core.Option.{Option, some, none}
 use Prim.Native.Nat.{ℕ}
 use lib.Dec.{eqb}
 use borrow.Author.Tests.{eqb-true, eq-eqb}
+use Rattle.ground.specs.Options.{given, mapped}
 use Rattle.turns.specs.Service.{Keys}
-use Rattle.turns.specs.Desk.{given}
 use Rattle.turns.specs.Slots.{Named, named, find, free, Lone}
 use Rattle.turns.specs.Rows.{atFirst, map-first, hasName, isFree}
 use Rattle.turns.specs.Shelves.{join, Shelves}
@@ -116,14 +116,6 @@ page-read k (p ∷ s) = go (isUsed (p .state)) (page-read k s)
     go : (b : Bool) → find K Page k (map viewPage s) ≡ pick (isPageOf k) s → find K Page k (viewPageBy b p ∷ map viewPage s) ≡ cond (b && sameKey (pageKey p) k) (some p) (pick (isPageOf k) s)
     go true ih = ap (cond (sameKey (pageKey p) k) (some p)) ih
     go false ih = ih
-
-abbrev pub mapped : {A B : Type 0} → (A → B) → Option A → Option B
-mapped f none = none
-mapped f (some a) = some (f a)
-
-pub given-mapped : {A B : Type 0} (f : A → B) (o : Option A) → given (mapped f o) ≡ given o
-given-mapped f none = refl
-given-mapped f (some a) = refl
 
 pub place-read : (k : Key) (s : List Place) → find K (Option Table) k (map viewPlace s) ≡ mapped learnedIn (pick (isPlaceOf k) s)
 unfolding find pick

@@ -6,6 +6,7 @@ ghost use lib.Dec.{eqb};
 ghost use lib.ListN.{length, getD, drop};
 ghost use Rattle.desk.specs.Places.{isUsed, isPageOf, isPlaceOf, noPage, noPlace};
 ghost use Rattle.desk.specs.Lawful.{within, all, any, apart, lawfulKey, lawfulTable, isZero, noStray, lawfulPage, lawfulPlace, samePages, samePlaces, pageHasPlace, placeHasPage, lawful};
+ghost use Rattle.lawful.specs.Early.{early};
 ghost use Rattle.lawful.specs.Parts.{openRight, unusedRight, freeRight};
 use desk::Desk;
 use desk::Key;
@@ -358,4 +359,17 @@ pub fn lawful_desk(d: Desk) -> bool
         return false;
     }
     places_paged(places, pages)
+}
+
+// The refusals that every call tests first, 12 and 1; 0 where it goes on.
+pub fn early_refusal(good: bool, key: Key) -> u64
+    ensures { λ r. ⌜ r ≡ early (not good) (not (lawfulKey (key .school) (key .class))) ⌝ }
+{
+    if !good {
+        return 12;
+    }
+    if !lawful_key(key.school, key.class) {
+        return 1;
+    }
+    0
 }

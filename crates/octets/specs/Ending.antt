@@ -69,9 +69,18 @@ pub record Ending (i : Interval) (all xs : List ℕ) (low until held r n : ℕ) 
   pub size : length xs ≡ 5
   pub same : take n xs ++ bytes (cover k r (stays i low until held)) ≡ all
 
-pub ending-start : (i : Interval) (xs : List ℕ) (low until held : ℕ) → length xs ≡ 5 → Rest (stays i low until held) → Ending i (bytes (finish (stays i low until held))) xs low until held (24 - until) 0
+pub ending-start : (i : Interval) (xs : List ℕ) (low until held r : ℕ) → length xs ≡ 5 → Rest (stays i low until held) → r ≡ 24 - until
+    → Ending i (bytes (finish (stays i low until held))) xs low until held r 0
 unfolding finish
-ending-start i xs low until held l r = record { k = 4; fuel = refl; few = omega (arith, r .wait); rest = r; size = l; same = refl }
+ending-start i xs low until held r l q e =
+    record {
+      k = 4;
+      fuel = refl;
+      few = omega (arith, q .wait);
+      rest = q;
+      size = l;
+      same = ap (λ (m : ℕ). bytes (cover 4 m (stays i low until held))) e;
+    }
 
 -- before a last byte there is room in the registers
 pub ending-low : (i : Interval) (low until held : ℕ) → Rest (stays i low until held) → low * 2 ^ until < 33554432

@@ -2,32 +2,27 @@
 use mathlib.Core.Path.{_≡_, refl, ap, _∙_}
 use mathlib.Core.Bool.{Bool, true, false, cond, _||_}
 use mathlib.Core.List.{List, [], _∷_}
-use mathlib.Core.Option.{Option, some, none}
 use Prim.Native.Nat.{ℕ}
 use native.Mathlib.Omega.{arith}
 use lib.Dec.{eqb}
 use borrow.Author.Tests.{eqb-true}
 use Rattle.turns.specs.Service.{accepted, refused, crowded}
 use Rattle.turns.specs.Accepted.{AllAccepted}
-use Rattle.turns.specs.Desk.{given}
 use Rattle.turns.specs.Shelves.{frees}
 use Rattle.turns.specs.SlotDesk.{Slotted, slotStep, slotRun, slotAfter}
 use Rattle.turns.specs.SlotDesk as slots
-use Rattle.estimate.specs.declared.Table.{Table}
-use Rattle.desk.specs.declared.Key.{Key}
+use Rattle.band.specs.Band.{Reader}
 use Rattle.desk.specs.declared.Desk.{Desk}
 use Rattle.desk.specs.Places.{emptyDesk, unusedPage, freePlace}
 use Rattle.desk.specs.Lawful.{lawful}
-use Rattle.turns.specs.Base.{orElse}
+use Rattle.desk.specs.Calls.{Call}
 use Rattle.kept.specs.View.{shelves}
-use Rattle.kept.specs.Sound.{Sound}
-use Rattle.kept.specs.Cells.{cellOf, noTable, table-found, table-there}
-use Rattle.serial.specs.Run.{Call, Reading, AllDone, calling, markOf, step, run, after, learnedTable}
+use Rattle.kept.specs.Kept.{call-lawful}
+use Rattle.serial.specs.Run.{AllDone, calling, markOf, step, run, after}
 use Rattle.serial.specs.Office.{bureau}
-use Rattle.serial.specs.Bridge.{alike, step-lawful}
-use Rattle.serial.specs.Alike.{Alike}
+use Rattle.serial.specs.Bridge.{Alike, alike}
 
-module _ (R : Reading) where
+module _ (R : Reader) where
   pub record SameRun (d : Desk) (cs : List Call) : Type 0 where
     pub answers : run R d cs ≡ slotRun (bureau R) (shelves d) cs
     pub ends : shelves (after R d cs) ≡ slotAfter (bureau R) (shelves d) cs
@@ -36,12 +31,13 @@ module _ (R : Reading) where
   pub same-run : (cs : List Call) (d : Desk) → lawful d ≡ true → SameRun d cs
   unfolding run after slotRun slotAfter
   same-run [] d h = record { answers = refl; ends = refl; stays = h }
-  same-run (c ∷ cs) d h = go (alike R d h c) (same-run cs (step R d c .desk) (step-lawful R d h c))
+  same-run (c ∷ cs) d h = go (alike R d h c) (same-run cs (step R d c .desk) (call-lawful R d h c))
     where
       go : Alike R (step R d c) (slotStep (bureau R) (shelves d) c) → SameRun (step R d c .desk) cs → SameRun d (c ∷ cs)
       go a ih =
           record {
-            answers = λ i. record { call = c; mark = a .mark i; output = a .output i } ∷ (ih .answers ∙ ap (λ (s : Slotted (bureau R)). slotRun (bureau R) s cs) (a .desk)) i;
+            answers = λ i. record { call = c; mark = a .mark i; output = a .output i } ∷ (ih .answers ∙ ap (λ (s : Slotted (bureau R)). slotRun
+                (bureau R) s cs) (a .desk)) i;
             ends = ih .ends ∙ ap (λ (s : Slotted (bureau R)). slotAfter (bureau R) s cs) (a .desk);
             stays = ih .stays;
           }
@@ -63,11 +59,3 @@ module _ (R : Reading) where
   unfolding run AllAccepted AllDone
   run-done [] d a = tt
   run-done (c ∷ cs) d a = (done-number (step R d c .answer .number) (a .0), run-done cs (step R d c .desk) (a .1))
-
-  pub learned-is : (d : Desk) → Sound d → (k : Key) → learnedTable d k ≡ cellOf d k .learned
-  unfolding learnedTable
-  learned-is d s k = rw (table-found d s k, table-there d s k) (go (cellOf d k .learned))
-    where
-      go : (o : Option Table) → cond (given o) (some (orElse o noTable)) none ≡ o
-      go none = refl
-      go (some t) = refl

@@ -3,7 +3,8 @@
 -- keeping its own place in that order. On a new empty desk, with the same inputs and buffers, every call then answers as before and
 -- as demand 2 says, writes the same bytes, and each key's learned table at the end is equal." Assumes nothing.
 use mathlib.Core.Path.{_≡_, sym, ap, _∙_, subst}
-use mathlib.Core.Bool.{Bool, false}
+use mathlib.Core.Bool.{Bool}
+use mathlib.Core.Option.{none}
 use mathlib.Core.List.{List}
 use Rattle.turns.specs.Service.{Entry, calls}
 use Rattle.turns.specs.Serial.{serial, Whole}
@@ -12,22 +13,24 @@ use Rattle.turns.specs.Strike.{strike, count, nothing-lost}
 use Rattle.turns.specs.Own.{own, own-order}
 use Rattle.turns.specs.Accepted.{AllAccepted, whole-accepted}
 use Rattle.turns.specs.Office.{Cell}
-use Rattle.turns.specs.Desk.{given}
 use Rattle.turns.specs.Turns.{shut}
 use Rattle.turns.specs.SlotDesk.{Slotted, cellIn, slotRun, slotAfter, SlotServed, slot-serialisation}
 use Rattle.turns.specs.SlotDesk as slots
 use Rattle.estimate.specs.declared.Table.{Table}
+use Rattle.band.specs.Band.{Reader}
 use Rattle.desk.specs.declared.Key.{Key}
 use Rattle.desk.specs.declared.Page.{Page}
-use Rattle.desk.specs.Places.{emptyDesk, pageFound, isFound}
+use Rattle.desk.specs.Places.{emptyDesk}
+use Rattle.desk.specs.Calls.{Call}
+use Rattle.desk.specs.Standing.{openPage, learnedTable}
 use Rattle.kept.specs.Sound.{lawful-sound}
-use Rattle.kept.specs.Cells.{cellOf, page-found}
+use Rattle.kept.specs.Cells.{cellOf, page-is, learned-is}
 use Rattle.kept.specs.Kept.{empty-lawful}
-use Rattle.serial.specs.Run.{Call, Reading, AllDone, calling, run, after, learnedTable}
+use Rattle.serial.specs.Run.{AllDone, calling, run, after}
 use Rattle.serial.specs.Office.{bureau, bureau-lawful}
-use Rattle.serial.specs.Beside.{SameRun, same-run, empty-shelves, run-done, learned-is}
+use Rattle.serial.specs.Beside.{SameRun, same-run, empty-shelves, run-done}
 
-module _ (R : Reading) (cs : List Call) where
+module _ (R : Reader) (cs : List Call) where
   -- what is left of the run, with the answers that it had, in the order in which it is served (turns, `Serial`)
   unfoldable pub left : List (Entry calling)
   left = serial calling (run R emptyDesk cs)
@@ -46,7 +49,7 @@ module _ (R : Reading) (cs : List Call) where
     -- and each key's learned table at the end is equal, or absent in both;
     pub tables : (k : Key) → learnedTable (after R emptyDesk servedCalls) k ≡ learnedTable (after R emptyDesk cs) k
     -- no page is left open
-    pub none-open : (k : Key) → isFound (pageFound (after R emptyDesk servedCalls) k) ≡ false
+    pub none-open : (k : Key) → openPage (after R emptyDesk servedCalls) k ≡ none
     -- the order: the closes, drops and looks that were accepted stand as they stood in the run;
     pub order : standing calling left ≡ standing calling (run R emptyDesk cs)
     -- what is served of a key depends on that key's own calls alone;
@@ -54,9 +57,10 @@ module _ (R : Reading) (cs : List Call) where
     -- the calls of a key's pages that are not struck out keep their order,
     pub own-order : (k : Key) → own calling k left ≡ own calling k (strike calling (run R emptyDesk cs))
     -- and of each key each call that is not struck out is served exactly as often as it was made
-    pub nothing-lost : (k : Key) (test : Entry calling → Bool) → count calling k test left ≡ count calling k test (strike calling (run R emptyDesk cs))
+    pub nothing-lost : (k : Key) (test : Entry calling → Bool) → count calling k test left ≡ count calling k test (strike calling
+        (run R emptyDesk cs))
 
-module _ (R : Reading) where
+module _ (R : Reader) where
   -- the theorem
   pub demand3 : (cs : List Call) → Demand3 R cs
   unfolding left
@@ -65,9 +69,11 @@ module _ (R : Reading) where
         whole = w;
         none-refused = run-done R (servedCalls R cs) emptyDesk (subst (AllAccepted calling) (sym again) (whole-accepted calling w));
         answers = again;
-        tables = λ k. learned-is R (after R emptyDesk (servedCalls R cs)) (lawful-sound (after R emptyDesk (servedCalls R cs)) (b .stays)) k ∙ ap (λ (x : Cell Table Page). x .learned) (cells k)
-            ∙ sym (learned-is R (after R emptyDesk cs) (lawful-sound (after R emptyDesk cs) (a .stays)) k);
-        none-open = λ k. page-found (after R emptyDesk (servedCalls R cs)) (lawful-sound (after R emptyDesk (servedCalls R cs)) (b .stays)) k ∙ ap (λ (x : Cell Table Page). given (x .page)) (cells k);
+        tables = λ k. learned-is (after R emptyDesk (servedCalls R cs)) (lawful-sound (after R emptyDesk (servedCalls R cs)) (b .stays)) k ∙ ap (λ
+            (x : Cell Table Page). x .learned) (cells k)
+            ∙ sym (learned-is (after R emptyDesk cs) (lawful-sound (after R emptyDesk cs) (a .stays)) k);
+        none-open = λ k. page-is (after R emptyDesk (servedCalls R cs)) (lawful-sound (after R emptyDesk (servedCalls R cs)) (b .stays)) k ∙ ap (λ
+            (x : Cell Table Page). x .page) (cells k);
         order = in-order calling (run R emptyDesk cs);
         of-key = λ k. one-key calling k (run R emptyDesk cs);
         own-order = λ k. own-order calling k (run R emptyDesk cs);
@@ -83,7 +89,8 @@ module _ (R : Reading) where
       a-answers : run R emptyDesk cs ≡ slotRun (bureau R) (slots.emptyDesk (bureau R)) cs
       a-answers = a .answers ∙ ap (λ (s : Slotted (bureau R)). slotRun (bureau R) s cs) (empty-shelves R)
 
-      v : SlotServed (bureau R) (serial calling (slotRun (bureau R) (slots.emptyDesk (bureau R)) cs)) (slotAfter (bureau R) (slots.emptyDesk (bureau R)) cs)
+      v : SlotServed (bureau R) (serial calling (slotRun (bureau R) (slots.emptyDesk (bureau R)) cs)) (slotAfter (bureau R) (slots.emptyDesk
+          (bureau R)) cs)
       v = slot-serialisation (bureau R) (bureau-lawful R) cs
 
       same-left : serial calling (slotRun (bureau R) (slots.emptyDesk (bureau R)) cs) ≡ left R cs
@@ -98,12 +105,15 @@ module _ (R : Reading) where
           ∙ subst (λ (l : List (Entry calling)). slotRun (bureau R) (slots.emptyDesk (bureau R)) (calls calling l) ≡ l) same-left (v .answers)
 
       -- at its end a run of the desk has the slots' cells
-      ended : (xs : List Call) → SameRun R emptyDesk xs → (k : Key) → cellOf (after R emptyDesk xs) k ≡ cellIn (bureau R) (slotAfter (bureau R) (slots.emptyDesk (bureau R)) xs) k
+      ended : (xs : List Call) → SameRun R emptyDesk xs → (k : Key) → cellOf (after R emptyDesk xs) k ≡ cellIn (bureau R) (slotAfter (bureau R)
+          (slots.emptyDesk (bureau R)) xs) k
       ended xs r k =
-          ap (λ (s : Slotted (bureau R)). cellIn (bureau R) s k) (r .ends ∙ ap (λ (s : Slotted (bureau R)). slotAfter (bureau R) s xs) (empty-shelves R))
+          ap (λ (s : Slotted (bureau R)). cellIn (bureau R) s k) (r .ends ∙ ap (λ (s : Slotted (bureau R)). slotAfter (bureau R) s xs)
+          (empty-shelves R))
 
       cells : (k : Key) → cellOf (after R emptyDesk (servedCalls R cs)) k ≡ shut (cellOf (after R emptyDesk cs) k)
       cells k =
           ended (servedCalls R cs) b k
-          ∙ subst (λ (l : List (Entry calling)). cellIn (bureau R) (slotAfter (bureau R) (slots.emptyDesk (bureau R)) (calls calling l)) k ≡ shut (cellIn (bureau R) (slotAfter (bureau R) (slots.emptyDesk (bureau R)) cs) k)) same-left (v .tables k)
+          ∙ subst (λ (l : List (Entry calling)). cellIn (bureau R) (slotAfter (bureau R) (slots.emptyDesk (bureau R)) (calls calling l)) k ≡ shut
+          (cellIn (bureau R) (slotAfter (bureau R) (slots.emptyDesk (bureau R)) cs) k)) same-left (v .tables k)
           ∙ ap shut (sym (ended cs a k))

@@ -8,23 +8,15 @@ use native.Mathlib.Omega.{arith}
 use lib.Dec.{leb}
 use lib.ListN.{length}
 use borrow.Author.Tests.{leb-false, lt-leb}
+use Rattle.ground.specs.Options.{given}
 use Rattle.ground.specs.Bools.{no-way}
 use Rattle.turns.specs.Service.{Keys, Service, put, Entry, calls}
-use Rattle.turns.specs.Desk.{given, one, placed}
+use Rattle.turns.specs.Desk.{one, placed}
 
 -- a with l, or l alone
 abbrev pub keep : {A : Type 0} → Bool → A → List A → List A
 keep true a l = a ∷ l
 keep false a l = l
-
--- what an option holds, or a where it holds nothing
-abbrev pub orElse : {A : Type 0} → Option A → A → A
-orElse none a = a
-orElse (some b) a = b
-
-pub none-given : {A : Type 0} (o : Option A) → given o ≡ false → o ≡ none
-none-given none h = refl
-none-given (some a) h = no-way h
 
 pub one-le : (b : Bool) → one b ≤ 1
 one-le true = omega arith

@@ -4,12 +4,9 @@ use mathlib.Core.List.{List, [], _∷_}
 use mathlib.Core.Option.{Option, some, none}
 use Prim.Native.Nat.{ℕ, _+_, _-_}
 use lib.Dec.{leb}
+use Rattle.ground.specs.Options.{given}
 use Rattle.turns.specs.Service.{Mark, accepted, refused, crowded, keys, put, Entry}
 use Rattle.turns.specs.Office.{Cell, Result, refuse, accept, Office, cell, service}
-
-abbrev pub given : {A : Type 0} → Option A → Bool
-given none = false
-given (some a) = true
 
 abbrev pub one : Bool → ℕ
 one true = 1

@@ -4,9 +4,10 @@ use mathlib.Core.Bool.{true, false}
 use mathlib.Core.List.{List, [], _∷_, _++_, append-assoc}
 use mathlib.Core.Option.{Option, none}
 use Prim.Native.Nat.{_<_}
+use Rattle.ground.specs.Options.{given}
 use Rattle.turns.specs.Service.{keys, Entry, calls, Service, Keys}
 use Rattle.turns.specs.Office.{Cell, accept, Office, cell, service}
-use Rattle.turns.specs.Desk.{given, hasPage, hasPlace, Desk, store, noPage, noPlace, run, after}
+use Rattle.turns.specs.Desk.{hasPage, hasPlace, Desk, store, noPage, noPlace, run, after}
 use Rattle.turns.specs.Serial.{page}
 use Rattle.turns.specs.Base.{placed-page, put-self, calls-append}
 use Rattle.turns.specs.Steps.{done, run-accepts, after-accepts, store-again, page-open, page-below, place-held, place-by}

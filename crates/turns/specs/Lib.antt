@@ -1,5 +1,6 @@
 pub mod Service
 pub mod Serial
+pub mod Example
 pub mod Office
 pub mod Desk
 pub mod Base

@@ -19,7 +19,7 @@ pub data Result (Output A : Type 0) : Type 0 where
 pub not-accepted : {Output A B : Type 0} {o p : Output} {a : A} → refuse o ≡ accept p a → B
 not-accepted e = let z : _≡_ {A = ℕ} 0 1 = cc in absurd (omega arith)
 
--- An office: `act` says what a call does to its key's cell where there is room; `pages` and `places` are the room.
+-- An office: `act` says what a call does to its key's cell where there is room; `working` is a page's working table; `pages` and `places` are the room.
 -- A call holds its inputs and the lent buffer as it was; an output holds the answer and the lent buffer as it is then.
 pub record Office : Type 1 where
   pub Key : Type 0
@@ -32,6 +32,7 @@ pub record Office : Type 1 where
   pub Output : Type 0
   pub key : Call → Key
   pub kind : Call → Kind
+  pub working : Page → Table
   pub act : Call → Cell Table Page → Result Output (Cell Table Page)
   pub refusal : ℕ → Call → Output
   pub pages : ℕ

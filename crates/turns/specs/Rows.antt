@@ -3,8 +3,8 @@ use mathlib.Core.Path.{_≡_, refl, sym, ap}
 use mathlib.Core.Bool.{Bool, true, false, cond}
 use mathlib.Core.List.{List, [], _∷_, map}
 use mathlib.Core.Option.{Option, some, none}
+use Rattle.ground.specs.Options.{given}
 use Rattle.turns.specs.Service.{Keys}
-use Rattle.turns.specs.Desk.{given}
 use Rattle.turns.specs.Slots.{Named, Slots, named, find, erase, replace, insert, update, updateBy}
 
 -- a in the place of the first element that passes the test

@@ -5,9 +5,10 @@ use mathlib.Core.List.{List, [], _∷_}
 use mathlib.Core.Option.{Option, some, none}
 use Prim.Native.Nat.{ℕ, zero, suc}
 use lib.ListN.{length}
+use Rattle.ground.specs.Options.{given}
 use Rattle.turns.specs.Service.{Keys}
 use Rattle.turns.specs.Office.{Cell, cell}
-use Rattle.turns.specs.Desk.{given, placed}
+use Rattle.turns.specs.Desk.{placed}
 use Rattle.turns.specs.Slots.{Named, Slots, find, update, used, free, Lone, Updated, updated}
 
 abbrev pub join : {A : Type 0} → Option (Option A) → Option A

@@ -4,9 +4,10 @@ use mathlib.Core.Bool.{Bool, true, false}
 use mathlib.Core.List.{List, [], _∷_}
 use mathlib.Core.Option.{Option}
 use lib.ListN.{length}
+use Rattle.ground.specs.Options.{given}
 use Rattle.turns.specs.Service.{Mark, accepted, refused, crowded, Keys, keys, Entry, calls}
 use Rattle.turns.specs.Office.{Cell, Result, refuse, accept, Office, service}
-use Rattle.turns.specs.Desk.{given, hasPage, hasPlace, Desk, Outcome, newDesk, store, noPage, noPlace, admit, settle, step, run, after}
+use Rattle.turns.specs.Desk.{hasPage, hasPlace, Desk, Outcome, newDesk, store, noPage, noPlace, admit, settle, step, run, after}
 use Rattle.turns.specs.Serial.{serial, Whole}
 use Rattle.turns.specs.Laws.{Laws}
 use Rattle.turns.specs.Turns.{Served, serialisation, shut}

@@ -8,9 +8,9 @@ use native.Mathlib.Omega.{arith}
 use lib.Dec.{leb}
 use lib.ListN.{length}
 use borrow.Author.Tests.{lt-leb}
-use Rattle.turns.specs.Base.{none-given}
+use Rattle.ground.specs.Options.{none-given, given}
 use Rattle.turns.specs.Service.{Keys}
-use Rattle.turns.specs.Desk.{given, one}
+use Rattle.turns.specs.Desk.{one}
 use Rattle.ground.specs.Bools.{no-way}
 
 module _ (K : Keys) (A : Type 0) where

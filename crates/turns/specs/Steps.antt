@@ -7,10 +7,11 @@ use Prim.Native.Nat.{ℕ, _+_, _-_, _≤_, _<_}
 use native.Mathlib.Omega.{arith}
 use lib.Dec.{leb}
 use borrow.Author.Tests.{lt-leb}
+use Rattle.ground.specs.Options.{given}
 use Rattle.ground.specs.Bools.{no-way, and-false}
 use Rattle.turns.specs.Service.{accepted, refused, crowded, keys, put, Entry, Service, Keys}
 use Rattle.turns.specs.Office.{Cell, Result, refuse, accept, Office, cell, service}
-use Rattle.turns.specs.Desk.{given, one, hasPage, hasPlace, Desk, Outcome, store, noPage, noPlace, admit, settle, step, run, after}
+use Rattle.turns.specs.Desk.{one, hasPage, hasPlace, Desk, Outcome, store, noPage, noPlace, admit, settle, step, run, after}
 use Rattle.turns.specs.Serial.{page}
 use Rattle.turns.specs.Base.{one-le, placed-page, put-self, put-put}
 

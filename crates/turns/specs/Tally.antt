@@ -5,9 +5,10 @@ use mathlib.Core.List.{List}
 use Prim.Native.Nat.{ℕ, _+_, _-_, _≤_}
 use native.Mathlib.Omega.{arith}
 use lib.ListN.{length}
+use Rattle.ground.specs.Options.{given}
 use Rattle.turns.specs.Service.{keys, Service, Keys}
 use Rattle.turns.specs.Office.{Cell, Office, service}
-use Rattle.turns.specs.Desk.{given, one, hasPlace, Desk, store, noPlace}
+use Rattle.turns.specs.Desk.{one, hasPlace, Desk, store, noPlace}
 use Rattle.turns.specs.Serial.{page}
 use Rattle.turns.specs.Base.{onlyReserved, placed-sum, room-below, put-each, has, relist, has-one, relist-length, relist-self, relist-other}
 

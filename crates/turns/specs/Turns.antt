@@ -9,12 +9,13 @@ use native.Mathlib.Omega.{arith}
 use lib.Dec.{leb}
 use lib.ListN.{length}
 use borrow.Author.Tests.{leb-false}
+use Rattle.ground.specs.Options.{given}
 use Rattle.ground.specs.Bools.{no-way}
 use Rattle.turns.specs.Service.{Kind, opening, band, closing, abandoning, looking, changing, accepted, keys, put, Entry, calls, Service, Keys}
 use Rattle.turns.specs.Office.{Cell, accept, Office, cell, service}
-use Rattle.turns.specs.Desk.{given, one, placed, hasPage, hasPlace, Desk, Outcome, newDesk, store, noPage, noPlace, step, entry, run, after}
+use Rattle.turns.specs.Desk.{one, placed, hasPage, hasPlace, Desk, Outcome, newDesk, store, noPage, noPlace, step, entry, run, after}
 use Rattle.turns.specs.Serial.{Waiting, waitsAs, servesAs, serialFrom, serial, Begun, begins, goes-on, Whole, nothing, page, look, change}
-use Rattle.turns.specs.Laws.{Laws}
+use Rattle.turns.specs.Laws.{Keeping, Laws, law-of}
 use Rattle.turns.specs.Base.{placed-none, only-reserved, room-down, put-each, put-both, has-one, relist-length, calls-append}
 use Rattle.turns.specs.Steps.{Step, was-refused, was-crowded, was-accepted, step-is, done, run-accepts, after-accepts, page-none}
 use Rattle.turns.specs.Held.{Ready, Held, held-first, held-more}
@@ -176,23 +177,23 @@ module _ (O : Office) where
     module _ (L : Laws O) (cs : List Call)
         (ih : (w′ : Waiting S) (ls″ ks″ : List Key) → Inv now w′ ls″ ks″ → Served (bare now (length ls″)) (serialFrom S w′ (run O now cs)) (after O now cs)) where
       turn : (κ : Kind) → kind c ≡ κ → Served (bare d (length ls)) (servesAs S accepted κ w (done O c o) ++ serialFrom S (waitsAs S accepted κ w (done O c o)) (run O now cs)) (after O now cs)
-      unfolding servesAs waitsAs
+      unfolding servesAs waitsAs Keeping
       turn opening q =
-          let f = L .opens c (d .cells (key c)) o y q a in
+          let f = law-of O L opening c (d .cells (key c)) o y q a in
           served-at (bare now (length ls′)) (bare d (length ls)) _ _ (bare-now (f .1)) (ih (put K (key c) (done O c o ∷ []) w) ls′ ks′ (inv-put (done O c o ∷ [])
           (λ g. subst (λ (t : Option Table). Held O (key c) t (done O c o ∷ []) y) (sym (f .1))
           (held-first O c o (d .cells (key c) .learned) y (subst (λ (p : Option Page). act c (cell (d .cells (key c) .learned) p) ≡ accept o y) (f .0) a) (f .1) g))
           (λ g. room-then (f .0) g)
           (λ g. begins (done O c o) refl q refl)))
       turn band q =
-          let f = L .serves c (d .cells (key c)) o y q a in
+          let f = law-of O L band c (d .cells (key c)) o y q a in
           served-at (bare now (length ls′)) (bare d (length ls)) _ _ (bare-now (f .1)) (ih (put K (key c) (w (key c) ++ (done O c o ∷ [])) w) ls′ ks′ (inv-put (w (key c) ++ (done O c o ∷ []))
           (λ g. subst (λ (t : Option Table). Held O (key c) t (w (key c) ++ (done O c o ∷ [])) y) (sym (f .1))
           (held-more O c o (d .cells (key c) .learned) (w (key c)) (d .cells (key c)) y (inv .held (key c) (f .0)) (f .0) a))
           (λ g. inv .room (key c) (f .0))
           (λ g. goes-on (w (key c)) (done O c o) (inv .begun (key c) (f .0)) refl q refl)))
       turn closing q =
-          let f = L .closes c (d .cells (key c)) o y q a in
+          let f = law-of O L closing c (d .cells (key c)) o y q a in
           served-page (key c) (d .cells (key c) .learned) (w (key c) ++ (done O c o ∷ [])) _ y (bare d (length ls)) _
           (held-more O c o (d .cells (key c) .learned) (w (key c)) (d .cells (key c)) y (inv .held (key c) (f .0)) (f .0) a)
           (ready (f .0))
@@ -200,17 +201,17 @@ module _ (O : Office) where
           (served-at (bare now (length ls′)) (store O (bare d (length ls)) (key c) y) _ _ (bare-put y (f .1) refl)
           (ih (put K (key c) [] w) ls′ ks′ (inv-put [] (λ g. no-given (f .1) g) (λ g. no-given (f .1) g) (λ g. no-given (f .1) g))))
       turn abandoning q =
-          let f = L .leaves c (d .cells (key c)) o y q a in
+          let f = law-of O L abandoning c (d .cells (key c)) o y q a in
           served-at (bare now (length ls′)) (bare d (length ls)) _ _ (bare-now (f .0)) (ih (put K (key c) [] w) ls′ ks′ (inv-put [] (λ g. no-given (f .1) g) (λ g. no-given (f .1) g) (λ g. no-given (f .1) g)))
       turn looking q =
-          let f = L .looks c (d .cells (key c)) o y q a in
+          let f = law-of O L looking c (d .cells (key c)) o y q a in
           served-one c o _ (shut (d .cells (key c))) (bare d (length ls)) _ (look-bare (f .1 none)) (page-none O (bare d (length ls)) (key c) (shut (d .cells (key c))) refl) (place-same (length ls)) (look (done O c o) _ refl q)
           (served-at (bare now (length ls′)) (store O (bare d (length ls)) (key c) (shut (d .cells (key c)))) _ _ (bare-put (shut (d .cells (key c))) refl (ap (λ (z : Cell Table Page). z .learned) (sym (f .0))))
           (ih w ls′ ks′ (inv-keep (subst (λ (z : Cell Table Page). given (z .page) ≡ true → Held O (key c) (z .learned) (w (key c)) z) (sym (f .0)) (inv .held (key c)))
           (subst (λ (z : Cell Table Page). given (z .page) ≡ true → 0 < pages) (sym (f .0)) (inv .room (key c)))
           (subst (λ (z : Cell Table Page). given (z .page) ≡ true → Begun S (key c) (w (key c))) (sym (f .0)) (inv .begun (key c))))))
       turn changing q =
-          let f = L .changes c (d .cells (key c)) o y q a in
+          let f = law-of O L changing c (d .cells (key c)) o y q a in
           served-one c o _ y (bare d (length ls)) _ (change-bare (f .0)) (page-none O (bare d (length ls)) (key c) y (f .1)) (place-bare (f .0)) (change (done O c o) _ refl q)
           (served-at (bare now (length ls′)) (store O (bare d (length ls)) (key c) y) _ _ (bare-put y (f .1) refl)
           (ih w ls′ ks′ (inv-keep (λ g. no-given (f .1) g) (λ g. no-given (f .1) g) (λ g. no-given (f .1) g))))

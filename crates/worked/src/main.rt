@@ -31,7 +31,7 @@ fn band_on(d: Desk, rows: u64, pels: &[u8], out: &mut [u8]) -> Outcome {
         key: the_key(),
         rows: rows,
     };
-    calls::write(d, ask, pels, out)
+    bands::write(d, ask, pels, out)
 }
 
 // The line of one band: its name, its code and its S.

@@ -1,10 +1,11 @@
 -- A band is written as defined, or there is no room. Assumes nothing.
-use mathlib.Core.Path.{_≡_, sym, ap, _∙_}
-use Prim.Native.Nat.{_+_}
+use mathlib.Core.Path.{_≡_, sym, _∙_}
+use Prim.Native.Nat.{_+_, _-_}
 use native.Mathlib.Omega.{arith}
 use borrow.Author.Needs.{needs}
 use lib.ListN.{length, take}
 use lib.Seq.{length-take-le}
+use Rattle.template.specs.Pels.{rowAt}
 use Rattle.band.specs.Bands.{with-room, without-room}
 use Rattle.band.proofs.write_band.Statement.{statement}
 use Rattle.band.proofs.write_band.Tie as tie
@@ -46,8 +47,10 @@ returns c =
     let p = c .before .before .before .before .before .before .put-last in
     let n : length (f .result .bytes) ≡ 5 = search needs in
     let k : p .result ≡ w .result .at + length (take (f .result .count) (f .result .bytes))
-    = p .ensures .0 ∙ ap (λ m. w .result .at + m) (sym (length-take-le (f .result .count) (f .result .bytes) (omega (arith, f .ensures .2)))) in
-    with-room (a .width) (a .rows) (a .last) (a .pels .now) (a .table .entries) (a .out .now) _ _ _ _ _ (w .ensures) _ (f .ensures .0) _ (p .result)
+    = omega (arith, p .ensures .0, length-take-le (f .result .count) (f .result .bytes) (omega (arith, f .ensures .2))) in
+    with-room (a .width) (a .rows) (a .last) (a .pels .now) (a .table .entries) (a .out .now)
+    (rowAt (a .width) (a .pels .now) (a .rows - 1)) (w .result .table .entries) (w .result .coder)
+    (w .last .1 .1 .1 .1 .1 .0) (w .result .at) (w .ensures) _ (f .ensures .0) _ (p .result)
     (p .ensures .1) k
     (sym (c .before .before .before .has-room .ensures) ∙ c .before .before .if1 .taken) (a .table) _ (c .last-row .ensures)
 
@@ -69,8 +72,10 @@ returns-2 c =
     let p = c .before .before .before .before .before .before .before .before .put-last in
     let n : length (f .result .bytes) ≡ 5 = search needs in
     let k : p .result ≡ w .result .at + length (take (f .result .count) (f .result .bytes))
-    = p .ensures .0 ∙ ap (λ m. w .result .at + m) (sym (length-take-le (f .result .count) (f .result .bytes) (omega (arith, f .ensures .2)))) in
-    let z = without-room (a .width) (a .rows) (a .last) (a .pels .now) (a .table .entries) (a .out .now) _ _ _ _ _ (w .ensures) _ (f .ensures .0) _
+    = omega (arith, p .ensures .0, length-take-le (f .result .count) (f .result .bytes) (omega (arith, f .ensures .2))) in
+    let z = without-room (a .width) (a .rows) (a .last) (a .pels .now) (a .table .entries) (a .out .now)
+    (rowAt (a .width) (a .pels .now) (a .rows - 1)) (w .result .table .entries) (w .result .coder)
+    (w .last .1 .1 .1 .1 .1 .0) (w .result .at) (w .ensures) _ (f .ensures .0) _
     (p .result) (p .ensures .1) k
     (sym (c .before .before .before .before .before .has-room .ensures) ∙ c .before .before .before .before .if1 .left) (a .table) in
     (z .0, c .before .before .clear .ensures ∙ z .1)

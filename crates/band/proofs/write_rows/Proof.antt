@@ -1,13 +1,13 @@
 -- The rows of a band, one after the other: the loop's invariant is that the rows after the first keep `BandAt`. Assumes nothing.
 use mathlib.Core.Path.{_≡_, refl, sym, _∙_, subst}
-use Prim.Native.Nat.{_-_, _≤_}
+use Prim.Native.Nat.{_-_, _≤_, _<_}
 use native.Mathlib.Omega.{arith}
 use borrow.Author.Needs.{needs}
 use lib.ListN.{length}
 use lib.Seq.{length-take-le}
 use Rattle.template.specs.Pels.{rowAt, rowBytes}
 use Rattle.octets.specs.Fit.{Ready, ready-start}
-use Rattle.band.specs.Bands.{BandAt, RowsKeep, band-first, start-count, keep-next, rows-fit, band-length}
+use Rattle.band.specs.Bands.{BandAt, RowsKeep, band-first, start-count, keep-next, rows-fit, row-inside, band-length}
 use Rattle.band.proofs.write_rows.Statement.{statement}
 use Rattle.band.proofs.write_rows.Tie as tie
 
@@ -86,12 +86,12 @@ write-next-requires c κs =
     let q = c .before .before .before .before .before .before .before .before .before .before .before .before .before .pre
     in
     let b = l .inv .3 (a .t2) (a .table .entries) (a .out .now) (begun (c .before .before .before .before .before)) in
-    let z = rows-fit (a .width) (a .pels .now) (rowBytes (a .width)) refl (a .rows) (l .y) (c .before .loop-test .taken) (q .3) (q .1) (q .4) in (
+    let t : l .y < a .rows = c .before .loop-test .taken in (
       q .0,
       q .1,
-      l .inv .0,
-      omega (arith, c .before .loop-test .taken, q .3),
-      z .0,
+      omega (arith, l .inv .0),
+      omega (arith, t, q .3),
+      row-inside (a .width) (a .pels .now) (a .rows) _ (omega (arith, t, l .inv .0)) (q .4),
       b .lawful,
       b .ready,
       omega (arith, b .count, q .3, l .inv .1),
@@ -115,12 +115,14 @@ loop-less c = omega (arith, c .before .before .before .before .loop-test .taken)
 loop-again : tie.Need-loop-again Inv-loop μ-loop
 loop-again c =
     let a = c .before .before .before .before .before .before .before .before .before .before .before .before .before .before .before .before .args in
+    let q = c .before .before .before .before .before .before .before .before .before .before .before .before .before .before .before .before .pre in
     let l = c .before .before .before .before .before .loop in
     let v = c .before .before .write-next in (
       omega (arith, l .inv .0),
       omega (arith, c .before .before .before .before .loop-test .taken),
       v .kept .1 .1 .1 .1 .0 ∙ l .inv .2,
-      keep-next (a .width) (a .pels .now) _ (l .run) (v .result) _ (l .out) _ (l .y) (c .before .before .before .before .before .before .before .before .before .before .before .before .before .before .before .before .pre .0) (c .before .before .before .before .before .before .before .before .before .before .before .before .before .before .before .before .pre .1) (l .inv .0) (l .inv .3) (v .ensures),
+      keep-next (a .width) (a .pels .now) _ (l .run) (v .result) _ (l .out) _ (l .y) _ (q .0) (q .1) (l .inv .0) (l .inv .3) (v .ensures)
+          (omega (arith, l .inv .0)),
     )
 
 -- src/lib.rt:109:1

@@ -1,6 +1,6 @@
 -- The place is learned. Assumes nothing.
 use mathlib.Core.Path.{refl}
-use Rattle.desk.specs.Calls.{learnedPlace}
+use Rattle.desk.specs.Changes.{learnedPlace}
 use Rattle.calls.proofs.learned_place.Statement.{statement}
 use Rattle.calls.proofs.learned_place.Tie as tie
 

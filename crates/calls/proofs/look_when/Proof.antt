@@ -4,18 +4,21 @@ use Prim.Native.Nat.{_<_}
 use native.Mathlib.Omega.{arith}
 use Rattle.desk.specs.declared.Found.the-variants.{At}
 use Rattle.desk.specs.Places.{tableFound}
-use Rattle.calls.specs.Refusing.{FirstTwo, first-two}
-use Rattle.calls.specs.Tables.{look-early, look-early-keeps, look-untaught, look-room, look-end, look-refused, look-keeps, look-clears, look-done, look-shows}
+use Rattle.desk.specs.Calls.{looks}
+use Rattle.calls.specs.Refusing.{FirstTwo, first-two, early-keeps, refuses, keeps, clears}
+use Rattle.calls.specs.Tables.{look-early, look-untaught, look-room, look-end, look-done}
 use borrow.Author.Needs.{needs}
 use Rattle.calls.proofs.look_when.Statement.{statement}
 use Rattle.calls.proofs.look_when.Tie as tie
 
 -- the first two tests, of this desk and key
 asked : (c : tie.After-early-refusal) → let a = c .before .before .args in FirstTwo (a .d) (a .key) (c .early-refusal .result)
-asked c = let a = c .before .before .args in first-two (a .d) (a .key) (a .good) (c .early-refusal .result) (c .before .before .pre) (c .early-refusal .ensures)
+asked c = let a = c .before .before .args in first-two (a .d) (a .key) (a .good) (c .early-refusal .result) (c .before .before .pre)
+    (c .early-refusal .ensures)
 
 -- where it was found
-slot : (c : tie.After-known-told) → let a = c .before .before .before .before .before .before .before .before .args in tableFound (a .d) (a .key) ≡ At (c .before .i .given .0 .0)
+slot : (c : tie.After-known-told) → let a = c .before .before .before .before .before .before .before .before .args in tableFound (a .d) (a .key)
+    ≡ At (c .before .i .given .0 .0)
 slot c = sym (c .before .before .before .find-table .ensures .0) ∙ c .before .i .given .1
 
 -- what was found is within
@@ -26,11 +29,9 @@ returns : tie.Need-returns
 returns c =
     let a = c .before .before .before .before .args in
     let r = c .before .before .early-refusal in
-    let e = look-early (a .d) (a .key) (r .result) (asked (c .before .before)) (a .out .now) (c .before .if1 .taken) in (
-      c .refused .ensures ∙ look-refused (a .d) (a .key) (a .out .now) (r .result) e (c .before .if1 .taken),
-      look-keeps (a .d) (a .key) (a .out .now) (r .result) e
-          (c .before .if1 .taken) (look-early-keeps (a .d) (a .key) (r .result) (asked (c .before .before)) (a .out .now)),
-    )
+    let e = look-early (a .d) (a .key) (r .result) (asked (c .before .before)) (a .out .now) (c .before .if1 .taken) in
+    refuses (a .d) (looks (a .key) (a .out .now)) (r .result) (c .refused .result) _ e (c .before .if1 .taken) (c .refused .ensures)
+    (keeps (r .result) (a .out .now) (early-keeps (a .d) (a .key) (r .result) (asked (c .before .before))))
 
 returns-2 : tie.Need-returns-2
 returns-2 c =
@@ -38,11 +39,10 @@ returns-2 c =
     let r = c .before .before .before .before .before .before .early-refusal in
     let e = look-untaught (a .d) (a .key) (r .result) (asked (c .before .before .before .before .before .before))
     (a .out .now)
-    (c .before .before .before .before .before .if1 .left) (sym (c .before .before .before .find-table .ensures .0) ∙ c .before .enum-told .given .1) in (
-      c .refused2 .ensures ∙ look-refused (a .d) (a .key) (a .out .now) 11 e (λ z. omega arith),
-      look-keeps (a .d) (a .key) (a .out .now) 11 e (λ z. omega arith)
-          (λ z. omega arith, λ z. omega arith),
-    )
+    (c .before .before .before .before .before .if1 .left) (sym (c .before .before .before .find-table .ensures .0) ∙ c
+    .before .enum-told .given .1) in
+    refuses (a .d) (looks (a .key) (a .out .now)) 11 (c .refused2 .result) _ e (λ z. omega arith) (c .refused2 .ensures)
+    (keeps 11 (a .out .now) (λ z. omega arith, λ z. omega arith))
 
 returns-3 : tie.Need-returns-3
 returns-3 c =
@@ -52,11 +52,9 @@ returns-3 c =
     (c .before .before .before .before .before .before .before .before .before .before .before .before)) (a .out .now)
     (c .before .before .before .before .before .before .before .before .before .before .before .if1 .left)
     (c .before .before .before .before .before .before .before .i .given .0 .0)
-    (slot (c .before .before .before .before .before .before)) (c .before .before .before .before .before .if2 .taken) in (
-      c .refused3 .ensures ∙ look-refused (a .d) (a .key) (a .out .now) 9 e (λ z. omega arith),
-      c .before .before .before .clear .ensures ∙ look-clears (a .d) (a .key)
-          (a .out .now) e,
-    )
+    (slot (c .before .before .before .before .before .before)) (c .before .before .before .before .before .if2 .taken) in
+    refuses (a .d) (looks (a .key) (a .out .now)) 9 (c .refused3 .result) _ e (λ z. omega arith) (c .refused3 .ensures)
+    (c .before .before .before .clear .ensures ∙ clears (a .out .now))
 
 mul-place : tie.Need-mul-place
 mul-place c = let h = within (c .before) in omega arith
@@ -72,12 +70,10 @@ returns-4 c =
     (c .before .before .before .before .before .before .before .before .before .before .before .before .before)) (a .out .now)
     (c .before .before .before .before .before .before .before .before .before .before .before .before .if1 .left)
     (c .before .before .before .before .before .before .before .before .i .given .0 .0)
-    (slot (c .before .before .before .before .before .before .before)) (c .before .before .before .before .before .before .if2 .left) in (
-      c .done .ensures ∙ look-done (a .d) (a .key) (a .out .now) e,
-      c .before .before .before .show-table .ensures ∙ look-shows (a .d) (a .key) (a .out .now)
-          (c .before .before .before .before .before .before .before .before .i .given .0 .0) _ e
-          (slot (c .before .before .before .before .before .before .before)) refl,
-    )
+    (slot (c .before .before .before .before .before .before .before)) (c .before .before .before .before .before .before .if2 .left) in
+    look-done (a .d) (a .key) (c .before .before .before .before .before .before .before .before .i .given .0 .0)
+    (slot (c .before .before .before .before .before .before .before)) (a .out .now) (c .done .result) _ _ e refl (c .done .ensures)
+    (c .before .before .before .show-table .ensures)
 
 pub look-when-spec : {M : Type 1} → statement M
 look-when-spec =

@@ -5,8 +5,9 @@ use native.Mathlib.Omega.{arith}
 use borrow.Author.Tests.{not-true, not-false}
 use Rattle.desk.specs.declared.Found.the-variants.{At}
 use Rattle.desk.specs.Places.{isFound, freePageFound}
-use Rattle.calls.specs.Refusing.{FirstTwo, first-two}
-use Rattle.calls.specs.Opening.{open-early, open-size, open-opened, open-pages, open-taught, open-left, open-refused}
+use Rattle.desk.specs.Calls.{opens}
+use Rattle.calls.specs.Refusing.{FirstTwo, first-two, refuses, nothing-lent}
+use Rattle.calls.specs.Opening.{open-early, open-size, open-opened, open-pages, open-taught, open-left}
 use borrow.Author.Needs.{needs}
 use Rattle.calls.proofs.open_when.Statement.{statement}
 use Rattle.calls.proofs.open_when.Tie as tie
@@ -18,7 +19,8 @@ asked c =
     (c .early-refusal .ensures)
 
 -- where it was found
-slot : (c : tie.After-known-told) → let a = c .before .before .before .before .before .before .before .before .before .before .before .before .before .args in freePageFound (a .d) ≡ At (c .before .i .given .0 .0)
+slot : (c : tie.After-known-told) → let a = c .before .before .before .before .before .before .before .before .before .before .before .before
+    .before .args in freePageFound (a .d) ≡ At (c .before .i .given .0 .0)
 slot c = sym (c .before .before .before .free-page .ensures .0) ∙ c .before .i .given .1
 
 -- what was found is within
@@ -33,16 +35,17 @@ returns : tie.Need-returns
 returns c =
     let a = c .before .before .before .before .args in
     let r = c .before .before .early-refusal in
-    c .refused .ensures ∙ open-refused (a .d) (a .ask) (r .result)
+    refuses (a .d) (opens (a .ask)) (r .result) (c .refused .result) _
     (open-early (a .d) (a .ask) (r .result) (asked (c .before .before)) (c .before .if1 .taken)) (c .before .if1 .taken)
+    (c .refused .ensures) (nothing-lent (r .result))
 
 returns-2 : tie.Need-returns-2
 returns-2 c =
     let a = c .before .before .before .before .before .before .args in
     let w = sym (c .before .before .in-range .ensures) ∙ not-true (c .before .before .in-range .result) (c .before .if2 .taken) in
     let r = c .before .before .before .before .early-refusal in
-    c .refused2 .ensures ∙ open-refused (a .d) (a .ask) 6 (open-size (a .d) (a .ask) (r .result) (asked (c .before .before .before .before))
-    (c .before .before .before .if1 .left) w) (λ z. omega arith)
+    refuses (a .d) (opens (a .ask)) 6 (c .refused2 .result) _ (open-size (a .d) (a .ask) (r .result) (asked (c .before .before .before .before))
+    (c .before .before .before .if1 .left) w) (λ z. omega arith) (c .refused2 .ensures) (nothing-lent 6)
 
 returns-3 : tie.Need-returns-3
 returns-3 c =
@@ -50,11 +53,12 @@ returns-3 c =
     let w = sym (c .before .before .before .before .before .before .in-range .ensures) ∙ not-false
     (c .before .before .before .before .before .before .in-range .result)
     (c .before .before .before .before .before .if2 .left) in
-    let o = ap isFound (sym (c .before .before .before .find-page .ensures .0)) ∙ sym (c .before .before .is-found .ensures) ∙ c .before .if3 .taken in
+    let o = ap isFound (sym (c .before .before .before .find-page .ensures .0)) ∙ sym (c .before .before .is-found .ensures) ∙ c
+    .before .if3 .taken in
     let r = c .before .before .before .before .before .before .before .before .early-refusal in
-    c .refused3 .ensures ∙ open-refused (a .d) (a .ask) 3 (open-opened (a .d) (a .ask) (r .result) (asked
+    refuses (a .d) (opens (a .ask)) 3 (c .refused3 .result) _ (open-opened (a .d) (a .ask) (r .result) (asked
     (c .before .before .before .before .before .before .before .before))
-    (c .before .before .before .before .before .before .before .if1 .left) w o) (λ z. omega arith)
+    (c .before .before .before .before .before .before .before .if1 .left) w o) (λ z. omega arith) (c .refused3 .ensures) (nothing-lent 3)
 
 returns-4 : tie.Need-returns-4
 returns-4 c =
@@ -65,10 +69,11 @@ returns-4 c =
     let o = ap isFound (sym (c .before .before .before .before .before .before .find-page .ensures .0)) ∙ sym
     (c .before .before .before .before .before .is-found .ensures) ∙ c .before .before .before .before .if3 .left in
     let r = c .before .before .before .before .before .before .before .before .before .before .before .early-refusal in
-    c .refused4 .ensures ∙ open-refused (a .d) (a .ask) 4 (open-pages (a .d) (a .ask) (r .result) (asked
+    refuses (a .d) (opens (a .ask)) 4 (c .refused4 .result) _ (open-pages (a .d) (a .ask) (r .result) (asked
     (c .before .before .before .before .before .before .before .before .before .before .before))
     (c .before .before .before .before .before .before .before .before .before .before .if1 .left) w o
-    (sym (c .before .before .before .free-page .ensures .0) ∙ c .before .enum-told .given .1)) (λ z. omega arith)
+    (sym (c .before .before .before .free-page .ensures .0) ∙ c .before .enum-told .given .1)) (λ z. omega arith) (c .refused4 .ensures)
+    (nothing-lent 4)
 
 open-new-requires : tie.Need-open-new-requires
 open-new-requires c κs = slot-within (c .before .before .before .before)
@@ -76,7 +81,8 @@ open-new-requires c κs = slot-within (c .before .before .before .before)
 returns-5 : tie.Need-returns-5
 returns-5 c =
     let a =
-    c .before .before .before .before .before .before .before .before .before .before .before .before .before .before .before .before .before .before .args
+    c .before .before .before .before .before .before .before .before .before .before .before .before .before .before .before .before .before
+    .before .args
     in
     let f = slot (c .before .before .before .before .before) in
     let i = c .before .before .before .before .before .before .i .given .0 .0 in
@@ -87,11 +93,12 @@ returns-5 c =
     let o = ap isFound (sym (c .before .before .before .before .before .before .before .before .before .before .before .find-page .ensures .0)) ∙ sym
     (c .before .before .before .before .before .before .before .before .before .before .is-found .ensures)
     ∙ c .before .before .before .before .before .before .before .before .before .if3 .left in
-    let r = c .before .before .before .before .before .before .before .before .before .before .before .before .before .before .before .before .early-refusal in
-    c .open-new .ensures ∙ open-left (a .d) (a .ask) (r .result) (asked
+    let r = c .before .before .before .before .before .before .before .before .before .before .before .before .before .before .before
+    .before .early-refusal in
+    open-left (a .d) (a .ask) (r .result) (asked
     (c .before .before .before .before .before .before .before .before .before .before .before .before .before .before .before .before))
     (c .before .before .before .before .before .before .before .before .before .before .before .before .before .before .before .if1 .left) w o i f
-    (sym (c .before .before .before .find-table .ensures .0) ∙ c .before .enum-told2 .given .1)
+    (c .open-new .result) (sym (c .before .before .before .find-table .ensures .0) ∙ c .before .enum-told2 .given .1) (c .open-new .ensures)
 
 mul-learned : tie.Need-mul-learned
 mul-learned c = let h = place-within c in omega arith
@@ -108,28 +115,34 @@ element-set-from-opened c = slot-within (c .before .before .before .before .befo
 returns-6 : tie.Need-returns-6
 returns-6 c =
     let a =
-    c .before .before .before .before .before .before .before .before .before .before .before .before .before .before .before .before .before .before .before .before .before .args
+    c .before .before .before .before .before .before .before .before .before .before .before .before .before .before .before .before .before
+    .before .before .before .before .args
     in
     let f = slot (c .before .before .before .before .before .before .before .before) in
     let i = c .before .before .before .before .before .before .before .before .before .i .given .0 .0 in
     let w = sym
-    (c .before .before .before .before .before .before .before .before .before .before .before .before .before .before .before .before .before .in-range .ensures)
+    (c .before .before .before .before .before .before .before .before .before .before .before .before .before .before .before .before
+    .before .in-range .ensures)
     ∙ not-false
-    (c .before .before .before .before .before .before .before .before .before .before .before .before .before .before .before .before .before .in-range .result)
+    (c .before .before .before .before .before .before .before .before .before .before .before .before .before .before .before .before
+    .before .in-range .result)
     (c .before .before .before .before .before .before .before .before .before .before .before .before .before .before .before .before .if2 .left) in
     let o = ap isFound (sym
     (c .before .before .before .before .before .before .before .before .before .before .before .before .before .before .find-page .ensures .0))
     ∙ sym (c .before .before .before .before .before .before .before .before .before .before .before .before .before .is-found .ensures)
     ∙ c .before .before .before .before .before .before .before .before .before .before .before .before .if3 .left in
     let r =
-    c .before .before .before .before .before .before .before .before .before .before .before .before .before .before .before .before .before .before .before .early-refusal
+    c .before .before .before .before .before .before .before .before .before .before .before .before .before .before .before .before .before
+    .before .before .early-refusal
     in
-    c .done .ensures ∙ open-taught (a .d) (a .ask) (r .result) (asked
-    (c .before .before .before .before .before .before .before .before .before .before .before .before .before .before .before .before .before .before .before))
-    (c .before .before .before .before .before .before .before .before .before .before .before .before .before .before .before .before .before .before .if1 .left)
-    w o i f (c .before .before .before .before .j .given .0 .0) _ (c .before .page-from .result) (sym
+    open-taught (a .d) (a .ask) (r .result) (asked
+    (c .before .before .before .before .before .before .before .before .before .before .before .before .before .before .before .before .before
+    .before .before))
+    (c .before .before .before .before .before .before .before .before .before .before .before .before .before .before .before .before .before
+    .before .if1 .left)
+    w o i f (c .before .before .before .before .j .given .0 .0) _ (c .before .page-from .result) (c .done .result) (sym
     (c .before .before .before .before .before .before .find-table .ensures .0) ∙ c .before .before .before .before .j .given .1) refl
-    (c .before .page-from .ensures)
+    (c .before .page-from .ensures) (c .done .ensures)
 
 pub open-when-spec : {M : Type 1} → statement M
 open-when-spec =

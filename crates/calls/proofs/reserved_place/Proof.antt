@@ -1,7 +1,7 @@
 -- The place is reserved, and its table zero. Assumes nothing.
 use mathlib.Core.Path.{refl}
 use Rattle.desk.specs.Places.{zeroTable}
-use Rattle.desk.specs.Calls.{reservedPlace}
+use Rattle.desk.specs.Changes.{reservedPlace}
 use Rattle.calls.proofs.reserved_place.Statement.{statement}
 use Rattle.calls.proofs.reserved_place.Tie as tie
 

@@ -38,8 +38,8 @@ use Rattle.desk.specs.declared.Desk.{Desk}
 use Rattle.desk.specs.Places.{emptyDesk}
 use Rattle.desk.proofs.Desk as T
 use Rattle.desk.proofs.Desk.Laws as T′
-use Rattle.desk.proofs.empty_desk.Symbol as g
-use Rattle.desk.proofs.empty_desk.Met as g-thm
+use Rattle.counter.proofs.emptied.Symbol as g
+use Rattle.counter.proofs.emptied.Met as g-thm
 use Rattle.counter.proofs.siftpebble_empty as f
 use Rattle.counter.proofs.siftpebble_empty.Key as key
 use Rattle.counter.proofs.siftpebble_empty.Statement as stated
@@ -122,4 +122,4 @@ siftpebble-empty-spec 𝓤 H 𝓜 𝓖 𝓡 =
     entered 𝓤 H (tripleOf 𝓤 H (𝓖 .A) f.signature (f.spec 𝓤 H (𝓖 .A) (𝓜 .mem) (𝓡 .run)))
     (tables 𝓤 H 𝓜 𝓡 code.env .C) (tables 𝓤 H 𝓜 𝓡 code.env .Λ) key.name code.function (code.unfolded 𝓤 H 𝓜 𝓡)
     (meets 𝓤 H (𝓖 .A) (givenOf 𝓤 H 𝓜 𝓖) (𝓜 .mem) (𝓡 .run) (tablesOf 𝓤 H 𝓜 (tables 𝓤 H 𝓜 𝓡 code.env))
-    (cited 𝓤 H (Callee 𝓤 H (𝓖 .A)) 𝓜 𝓡 code.env g.name g.routine code.calls-desk·empty-desk (g-thm.met 𝓤 H 𝓜 𝓖 𝓡)))
+    (cited 𝓤 H (Callee 𝓤 H (𝓖 .A)) 𝓜 𝓡 code.env g.name g.routine code.calls-counter·emptied (g-thm.met 𝓤 H 𝓜 𝓖 𝓡)))

@@ -26,7 +26,7 @@ sub-left c = omega (arith, c .before .pre .fit .few)
 
 -- src/lib.rt:184:9
 loop-holds : tie.Need-loop-holds Inv-loop μ-loop
-loop-holds c = λ i r. ending-start i _ _ _ _ refl r
+loop-holds c = λ i r. ending-start i _ _ _ _ _ refl r (omega arith)
 
 -- src/lib.rt:185:36
 power-requires : tie.Need-power-requires Inv-loop μ-loop
