@@ -8,6 +8,7 @@ use mathlib.Core.Bool.{Bool, true, false, _&&_}
 use mathlib.Core.List.{List, [], _∷_, _++_}
 use lib.ListN.{length, take, drop, length-append, length-take, length-drop}
 use lib.Dec.{leb, eqb}
+use Rattle.ground.specs.Bools.{both}
 use Rattle.coder.specs.Writing.{Stage, step, after, after-append}
 use Rattle.coder.specs.Page.{Page, size, sense}
 use borrow.Author.Tests.{leb-true}
@@ -111,10 +112,6 @@ pub finish-behind : (c : Coder) (xs lasts : List ℕ) → lasts ≡ bytes (finis
 finish-behind c xs lasts e =
     ap (λ (w : Registers). bytes (finish w)) (lift-behind c xs) ∙ ap bytes (behind-finish xs (lift c [])) ∙ bytes-behind xs (finish (lift c [])) ∙ ap (λ (l : List ℕ). xs ++ l) (sym e)
 
-both-left : (x y : Bool) → (x && y) ≡ true → x ≡ true
-both-left true y e = refl
-both-left false y e = e
-
 written-last : (width rows : ℕ) (t last band : List ℕ) → written width rows t last band .last ≡ lastRow width rows band
 unfolding written
 written-last width rows t last band = refl
@@ -168,7 +165,7 @@ module _ (width rows : ℕ) (last band t₀ out₀ above t : List ℕ) (c : Code
         last-is r = r ∙ sym (written-last width rows t₀ last band)
 
         left-of : (leb (n₁ - 1) (length out₁) && leb (n₁ - 1) maxCode) ≡ true → leb (n₁ - 1) (length out₁) ≡ true
-        left-of h = both-left (leb (n₁ - 1) (length out₁)) (leb (n₁ - 1) maxCode) h
+        left-of h = both (leb (n₁ - 1) (length out₁)) (leb (n₁ - 1) maxCode) h .0
 
     pub without-room : (leb (n₁ - 1) (length out₁) && leb (n₁ - 1) maxCode) ≡ false → (table : Table)
         → (record { room = false; length = 0; shifts = 0; table = table; last = last } ≡ wroteAnswer W table last out₀) × (cleared out₁ ≡ wroteOut W out₀)

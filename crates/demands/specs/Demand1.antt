@@ -19,6 +19,7 @@ use Rattle.desk.specs.Standing.{stand}
 use Rattle.desk.specs.Tests.{tests, in-order}
 use Rattle.desk.specs.Effects.{Effect}
 use Rattle.desk.specs.Changes.{changed}
+use Rattle.kept.specs.Bands.{zero-get}
 use Rattle.desk.specs.Allowed.{done, unless, unlessLent, number, effectOn, outcome, lent, Allowed}
 
 -- ---- a number of the table
@@ -62,12 +63,6 @@ numbered (r ∷ rs) ns h =
     go true i ih = inr i
     go false i (inl e) = inl e
     go false i (inr e) = inr (in-from (r .number) (refusal rs) ns e)
-
--- ---- all of it zero
-zero-at : (n i : ℕ) → getD (replicate n 0) i 0 ≡ zero
-zero-at zero i = refl
-zero-at (suc n) zero = refl
-zero-at (suc n) (suc i) = zero-at n i
 
 -- what a refusal is
 pub record Refused (d : Desk) (c : Call) (r : Outcome) (after : List ℕ) : Type 0 where
@@ -119,7 +114,7 @@ module _ (d : Desk) (c : Call) (r : Outcome) (after : List ℕ) (p : Allowed d c
   all-zero e = subst (λ (l : List ℕ). (length l ≡ length (lentTo c)) × ((i : ℕ) → getD l i 0 ≡ 0)) (sym (cleared-is e)) (
     length-replicate (length
         (lentTo c)) 0,
-    zero-at (length (lentTo c)),
+    zero-get (length (lentTo c)),
   )
     where
       cleared-is : (r .answer .number ≡ 9) ⊎ (r .answer .number ≡ 10) → after ≡ replicate (length (lentTo c)) 0

@@ -7,7 +7,7 @@ use mathlib.Core.List.{List, [], _∷_, _++_}
 use Prim.Native.Nat.{ℕ, _*_, _≤_}
 use native.Mathlib.Omega.{arith}
 use lib.Dec.{leb}
-use lib.ListN.{getD, length, take, drop}
+use lib.ListN.{getD, length, take, drop, length-append}
 use borrow.Author.Tests.{leb-true, eqb-true, le-leb, eq-eqb, le-ltb}
 use Rattle.ground.specs.Bools.{both, not-true}
 use Rattle.ground.specs.Options.{orElse}
@@ -47,8 +47,7 @@ take-front [] ys = refl
 take-front (x ∷ xs) ys = ap (λ (l : List ℕ). x ∷ l) (take-front xs ys)
 
 length-front : (xs ys : List ℕ) → length xs ≤ length (xs ++ ys)
-length-front [] ys = omega arith
-length-front (x ∷ xs) ys = let h : length xs ≤ length (xs ++ ys) = length-front xs ys in omega arith
+length-front xs ys = omega (arith, length-append xs ys)
 
 pub front-again : (xs out : List ℕ) → front (length xs) (inFront xs out) ≡ xs
 unfolding front inFront

@@ -17,17 +17,8 @@ use Rattle.desk.specs.declared.Found.the-variants.{At}
 use Rattle.desk.specs.Places.{isUsed, isPageOf, isPlaceOf, findBy, isFound, pageFound, placeFound, noPage}
 use Rattle.desk.specs.Lawful.{within, all, any, lawfulKey, lawfulTable, noStray, lawfulPage, lawfulPlace, apart, samePages, samePlaces, pageHasPlace, placeHasPage, lawful}
 
--- both tests hold
-pub both-left : (a b : Bool) → (a && b) ≡ true → a ≡ true
-both-left true b e = refl
-both-left false b e = e
-
-pub both-right : (a b : Bool) → (a && b) ≡ true → b ≡ true
-both-right true b e = e
-both-right false b e = absurd (let z : _≡_ {A = ℕ} 0 1 = cc in omega arith)
-
 pub within-both : (low n high : ℕ) → within low n high ≡ true → (low ≤ n) × (n ≤ high)
-within-both low n high e = (leb-true low n (both-left (leb low n) (leb n high) e), leb-true n high (both-right (leb low n) (leb n high) e))
+within-both low n high e = let b = both (leb low n) (leb n high) e in (leb-true low n (b .0), leb-true n high (b .1))
 
 -- what holds of every element holds of the one that was found, and so does the test (none is what stands past the end)
 module _ {A : Type 0} (test law : A → Bool) (none : A) where
@@ -37,7 +28,7 @@ module _ {A : Type 0} (test law : A → Bool) (none : A) where
   from : (xs : List A) (b j : ℕ) → all law xs ≡ true → findBy test xs b ≡ At j → (b ≤ j) × Good (getD xs (j - b) none)
   unfolding all findBy Good
   from [] b j l f = absurd (let z : _≡_ {A = ℕ} 0 1 = cc in omega arith)
-  from (x ∷ xs) b j l f = go (test x) refl f (λ q. from xs (suc b) j (both-right (law x) (all law xs) l) q)
+  from (x ∷ xs) b j l f = go (test x) refl f (λ q. from xs (suc b) j (both (law x) (all law xs) l .1) q)
     where
       at : (n : ℕ) → j - b ≡ n → Good (getD (x ∷ xs) n none) → Good (getD (x ∷ xs) (j - b) none)
       at n e g = rw e g
@@ -45,7 +36,7 @@ module _ {A : Type 0} (test law : A → Bool) (none : A) where
       go : (y : Bool) → test x ≡ y → cond y (At b) (findBy test xs (suc b)) ≡ At j → (findBy test xs (suc b) ≡ At j → (suc b ≤ j) × Good (getD xs
           (j - suc b) none))
           → (b ≤ j) × Good (getD (x ∷ xs) (j - b) none)
-      go true t f r = let z : b ≡ j = cc in (omega arith, at 0 (omega arith) (both-left (law x) (all law xs) l, t))
+      go true t f r = let z : b ≡ j = cc in (omega arith, at 0 (omega arith) (both (law x) (all law xs) l .0, t))
       go false t f r = let z : suc b ≤ j = r f .0 in (omega arith, at (suc (j - suc b)) (omega arith) (r f .1))
 
   pub at-found : (xs : List A) (i : ℕ) → all law xs ≡ true → findBy test xs 0 ≡ At i → (law (getD xs i none) ≡ true) × (test (getD xs i none) ≡ true)
@@ -53,14 +44,14 @@ module _ {A : Type 0} (test law : A → Bool) (none : A) where
   at-found xs i l f = let e : i - 0 ≡ i = omega arith in rw e at (from xs 0 i l f .1)
 
 -- every element of a list
-all-at : (law : ℕ → Bool) (xs : List ℕ) (i : ℕ) → law 0 ≡ true → all law xs ≡ true → law (getD xs i 0) ≡ true
+pub all-get : {A : Type 0} (p : A → Bool) (s : List A) (i : ℕ) (z : A) → all p s ≡ true → p z ≡ true → p (getD s i z) ≡ true
 unfolding all
-all-at law [] i z l = z
-all-at law (x ∷ xs) zero z l = both-left (law x) (all law xs) l
-all-at law (x ∷ xs) (suc i) z l = all-at law xs i z (both-right (law x) (all law xs) l)
+all-get p [] i z h k = k
+all-get p (x ∷ s) zero z h k = both (p x) (all p s) h .0
+all-get p (x ∷ s) (suc i) z h k = all-get p s i z (both (p x) (all p s) h .1) k
 
 pub table-lawful : (t : List ℕ) → lawfulTable t ≡ true → LawfulTable t
-table-lawful t l cx = leb-true (indexOf (getD t cx 0)) 29 (all-at (λ e. leb (indexOf e) 29) t cx refl l)
+table-lawful t l cx = leb-true (indexOf (getD t cx 0)) 29 (all-get (λ e. leb (indexOf e) 29) t cx 0 l refl)
 
 -- ---- an open page
 pub record OpenPage (p : Page) : Type 0 where
@@ -76,15 +67,15 @@ page-open p l u = parts (within 1 (p .width) maxWidth) (lawfulTable (p .table .e
     parts : (w t s a k : Bool) → within 1 (p .width) maxWidth ≡ w → lawfulTable (p .table .entries) ≡ t → (a && (k && (w && (t && s)))) ≡ true
         → OpenPage p
     parts w t s a k p q e =
-        let m = both-right k (w && (t && s)) (both-right a (k && (w && (t && s))) e) in
-        let x = within-both 1 _ maxWidth (p ∙ both-left w (t && s) m) in
-        record { some = x .0; small = x .1; table = table-lawful _ (q ∙ both-left t s (both-right w (t && s) m)) }
+        let m = both k (w && (t && s)) (both a (k && (w && (t && s))) e .1) .1 in
+        let x = within-both 1 _ maxWidth (p ∙ both w (t && s) m .0) in
+        record { some = x .0; small = x .1; table = table-lawful _ (q ∙ both t s (both w (t && s) m .1) .0) }
 
 pub open-page : (d : Desk) (k : Key) (i : ℕ) → lawful d ≡ true → pageFound d k ≡ At i → OpenPage (getD (d .pages) i noPage)
 unfolding lawful
 open-page d k i l f =
-    let a = at-found (isPageOf k) lawfulPage noPage (d .pages) i (both-left _ _ (both-left _ _ l)) f in
-    page-open (getD (d .pages) i noPage) (a .0) (both-left _ _ (a .1))
+    let a = at-found (isPageOf k) lawfulPage noPage (d .pages) i (both _ _ (both _ _ l .0) .0) f in
+    page-open (getD (d .pages) i noPage) (a .0) (both _ _ (a .1) .0)
 
 -- ---- an open page has its place
 any-found : {A : Type 0} (test : A → Bool) (xs : List A) (b : ℕ) → any test xs ≡ true → isFound (findBy test xs b) ≡ true
@@ -111,7 +102,7 @@ page-placed d k i l f =
     (p .class) (k .class) (m .1)) (a .0))
   where
     third : (a b c e : Bool) → (a && (b && (c && e))) ≡ true → c ≡ true
-    third a b c e h = both-left c e (both-right b (c && e) (both-right a (b && (c && e)) h))
+    third a b c e h = both c e (both b (c && e) (both a (b && (c && e)) h .1) .1) .0
 
     has : (y : Bool) → y ≡ true → (school class : ℕ) → school ≡ k .school → class ≡ k .class
         → (not y || any (isPlaceOf (record { school = school; class = class })) (d .places)) ≡ true → any (isPlaceOf k) (d .places) ≡ true

@@ -106,11 +106,7 @@ abbrev pub placeAt : Desk → Found → Place
 placeAt d (At i) = getD (d .places) i noPlace
 placeAt d Nothing = noPlace
 
--- the desk with a page, or a place, put there
-abbrev pub withPage : Desk → Found → Page → Desk
-withPage d (At i) p = record { pages = set (d .pages) i p; places = d .places }
-withPage d Nothing p = d
-
+-- the desk with a place put there
 abbrev pub withPlace : Desk → Found → Place → Desk
 withPlace d (At i) p = record { pages = d .pages; places = set (d .places) i p }
 withPlace d Nothing p = d

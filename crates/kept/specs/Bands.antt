@@ -15,6 +15,7 @@ use Rattle.estimate.specs.Estimate.{indexOf, next}
 use Rattle.estimate.specs.Laws.{next-lawful}
 use Rattle.template.specs.Pels.{rowBytes, rowAt, bandTo, rowPadded, bandPadded}
 use Rattle.band.specs.Band.{qScheme, qWriter, qPage, pageAt, white, lastBytes, lastRow, written}
+use Rattle.desk.specs.OpenPages.{all-get}
 use Rattle.desk.specs.Lawful.{all, lawfulTable, isZero, noStray}
 use Rattle.ground.specs.Bools.{both, and-true}
 
@@ -24,12 +25,6 @@ unfolding all
 all-set p [] i a h k = h
 all-set p (x ∷ s) zero a h k = and-true (p a) (all p s) k (both (p x) (all p s) h .1)
 all-set p (x ∷ s) (suc i) a h k = and-true (p x) (all p (set s i a)) (both (p x) (all p s) h .0) (all-set p s i a (both (p x) (all p s) h .1) k)
-
-pub all-get : {A : Type 0} (p : A → Bool) (s : List A) (i : ℕ) (z : A) → all p s ≡ true → p z ≡ true → p (getD s i z) ≡ true
-unfolding all
-all-get p [] i z h k = k
-all-get p (x ∷ s) zero z h k = both (p x) (all p s) h .0
-all-get p (x ∷ s) (suc i) z h k = all-get p s i z (both (p x) (all p s) h .1) k
 
 abbrev lawfulEntry : ℕ → Bool
 lawfulEntry e = leb (indexOf e) 29
@@ -78,7 +73,7 @@ zero-drop n zero = zero-all n
 zero-drop zero (suc k) = refl
 zero-drop (suc n) (suc k) = zero-drop n k
 
-zero-get : (n i : ℕ) → getD (replicate n 0) i 0 ≡ zero
+pub zero-get : (n i : ℕ) → getD (replicate n 0) i 0 ≡ zero
 zero-get zero i = refl
 zero-get (suc n) zero = refl
 zero-get (suc n) (suc i) = zero-get n i

@@ -6,7 +6,7 @@ use native.Mathlib.Nat.{suc-mul, mul-le-mul-right, div-one, div-div-eq-div-mul, 
 use native.Mathlib.Decide.{decLt}
 use native.Mathlib.Omega.{arith}
 use mathlib.Core.Bool.{true}
-use mathlib.Core.Option.{Option, some}
+use mathlib.Core.Option.{some}
 use mathlib.Core.List.{List, [], _∷_, _++_}
 use lib.ListN.{getD, length, drop, length-take, length-drop, List·getD-eq-default}
 use lib.Seq.{ext-getD, getD-take, getD-drop}
@@ -15,8 +15,7 @@ use borrow.Author.Tests.{eqb-true}
 use Rattle.template.specs.Pels.{rowBytes, pelAt, pelsTo, rowAt, bandTo, rowPadded, bandPadded}
 use Rattle.template.specs.Window.{pels-at}
 use Rattle.ground.specs.Bools.{both}
-use Rattle.band.specs.Band.{written, IsBand, Right}
-use Rattle.band.specs.One.{one-right}
+use Rattle.band.specs.Band.{written, IsBand}
 use Rattle.reader.specs.Verdict.{band-size, same-pels}
 
 -- ---- a byte is its eight bits
@@ -156,12 +155,3 @@ module _ (width rows : ℕ) (a b : List ℕ) (some : 1 ≤ width) (ia : IsBand w
 -- no two bands of one size have one code, from one table and last row
 pub no-two : (width rows : ℕ) (table last a b : List ℕ) → 1 ≤ width → IsBand width rows a → IsBand width rows b → written width rows table last a .code ≡ written width rows table last b .code → a ≡ b
 no-two width rows table last a b h ia ib e = same-band width rows a b h ia ib (same-pels width rows table last a b e)
-
--- what is right of a code is determined
-pub right-unique : (width rows : ℕ) (table last code : List ℕ) (f g : Option (List ℕ)) → 1 ≤ width → Right width rows table last code f → Right width rows table last code g → f ≡ g
-right-unique width rows table last code f g h p q = one-right width rows table last code (λ a b. no-two width rows table last a b h) f g p q
-
--- what is written is read back: of a band's own code nothing else is right
-pub written-right : (width rows : ℕ) (table last band : List ℕ) (f : Option (List ℕ)) → 1 ≤ width → IsBand width rows band
-    → Right width rows table last (written width rows table last band .code) f → f ≡ some band
-written-right width rows table last band f h i r = right-unique width rows table last (written width rows table last band .code) f (some band) h r (i, refl)
