@@ -60,7 +60,7 @@ fn declares(line: &str, name: &str, rattle: bool) -> bool {
     let mut words = line.split_whitespace().skip(behind);
     let first = words.next().unwrap_or("");
     let typed = first.ends_with(':') || words.next().is_some_and(|w| w.starts_with(':'));
-    let bare = first.split(['(', ':', ';', ',']).next();
+    let bare = first.split(['(', '<', ':', ';', ',']).next();
     // in Rattle `name: ..` alone is a parameter, or a field in a literal
     bare == Some(name) && (behind > 0 || typed && !rattle)
 }
@@ -121,6 +121,6 @@ fn a_missing_name_is_found() {
     assert_eq!(faults("Pels `contexts`", &short).len(), 1);
     assert_eq!(faults("`crates/template/specs/Pel.antt`", &short).len(), 1);
     assert_eq!(faults("`context` of no file", &short).len(), 1);
-    assert_eq!(faults("`calls::open`, `calls::shut`", &short).len(), 1);
+    assert_eq!(faults("`pages::open`, `pages::shut`", &short).len(), 1);
     assert_eq!(faults("`counter::school`", &short).len(), 1);
 }

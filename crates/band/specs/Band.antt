@@ -6,6 +6,7 @@ use mathlib.Core.Bool.{Bool, true, false, cond, _&&_}
 use mathlib.Core.List.{List, [], _++_}
 use lib.ListN.{getD, length, replicate}
 use lib.Dec.{ltb, leb}
+use Rattle.limits.specs.Limits.{maxCode, lastBytes}
 use Rattle.coder.specs.Writing.{Writer, Model, bandCode, bandCount, bandModel}
 use Rattle.coder.specs.Page.{Scheme, Page, page}
 use Rattle.estimate.specs.Estimate.{rowOf, next}
@@ -15,21 +16,6 @@ use Rattle.store.specs.Store.{inFront, cleared}
 use Rattle.estimate.specs.declared.Table.{Table}
 use Rattle.band.specs.declared.Wrote.{Wrote}
 use Rattle.template.specs.Pels.{rowBytes, pelsTo, rowAt, bandTo, bandPadded, context}
-
--- ---- the limits
--- Width 1 to 2,048. A band has 1 to 64 rows. A code has at most 32,768 bytes.
-abbrev pub maxWidth : ℕ
-maxWidth = 2048
-
-abbrev pub maxRows : ℕ
-maxRows = 64
-
-abbrev pub maxCode : ℕ
-maxCode = 32768
-
--- the bytes that a page keeps of its last row
-abbrev pub lastBytes : ℕ
-lastBytes = rowBytes maxWidth
 
 -- ---- the Q-coder with our seven-pel template
 abbrev pub qScheme : Scheme

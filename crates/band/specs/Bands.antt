@@ -24,7 +24,8 @@ use Rattle.octets.specs.Ending.{bytes-behind}
 use Rattle.store.specs.Store.{stores, stores-append, stores-fit, length-stores, inFront, cleared}
 use Rattle.template.specs.Pels.{pelsTo, rowAt, rowBytes, bandTo}
 use Rattle.band.specs.declared.Run.{Run}
-use Rattle.band.specs.Band.{qScheme, qWriter, qPage, pageAt, Written, written, lastRow, hasRoom, maxCode, wroteAnswer, wroteOut}
+use Rattle.limits.specs.Limits.{maxWidth, maxRows, maxCode, lastBytes, maxBand}
+use Rattle.band.specs.Band.{qScheme, qWriter, qPage, pageAt, Written, written, lastRow, hasRoom, wroteAnswer, wroteOut}
 use Rattle.band.specs.Rows.{stageOf, through, RowDone, lift-behind, page-within}
 
 module _ (width : ℕ) where
@@ -50,10 +51,10 @@ module _ (width : ℕ) where
       pub stage : through width opened (bandTo width band y) ≡ stageOf width (record { table = t; above = pelsTo above width; this = [] }) (lift c settled)
       pub stored : out ≡ stores out₀ 0 settled
       pub place : at ≡ length settled
-      pub few : length settled ≤ 4096 * y
+      pub few : length settled ≤ 2 * maxWidth * y
       pub lawful : LawfulTable t
       pub ready : Ready (lift c [])
-      pub count : c .interval .count ≤ 24576 * y
+      pub count : c .interval .count ≤ 12 * maxWidth * y
 
     pub band-start : (c : Coder) → lift c [] ≡ start → LawfulTable t₀ → BandAt last t₀ c out₀ 0 0
     unfolding bandTo after stores
@@ -92,7 +93,7 @@ module _ (width : ℕ) where
           after-append (qPage width) qWriter (bandTo width band y) (pelsTo (rowAt width band y) width) opened
           ∙ ap₂ (λ (s : Stage (qPage width) qWriter) (l : List ℕ). through width s (pelsTo l width)) (b .stage) (sym e) ∙ from-band
 
-      pub band-again : width ≤ 2048 → BandAt row t′ c′ out′ at′ (suc y)
+      pub band-again : width ≤ maxWidth → BandAt row t′ c′ out′ at′ (suc y)
       band-again k =
           let n : length (b .settled ++ r .settled) ≡ length (b .settled) + length (r .settled) = length-append (b .settled) (r .settled) in
           record {
@@ -193,11 +194,12 @@ module _ (width : ℕ) (band : List ℕ) (bytes′ : ℕ) (is : bytes′ ≡ row
   pub row-before : (y from : ℕ) → 1 ≤ y → from ≡ y * bytes′ → take (from - (from - bytes′)) (drop (from - bytes′) band) ≡ rowAt width band (y - 1)
   row-before y from h e = part-at (from - (from - bytes′)) (from - bytes′) (y - 1) (omega (arith, split y h)) (omega (arith, split y h))
 
-  pub rows-fit : (rows y : ℕ) → y < rows → rows ≤ 64 → width ≤ 2048 → length band ≡ rows * rowBytes width → (y * bytes′ + bytes′ ≤ length band) × (length band ≤ 16384)
+  pub rows-fit : (rows y : ℕ) → y < rows → rows ≤ maxRows → width ≤ maxWidth → length band ≡ rows * rowBytes width
+      → (y * bytes′ + bytes′ ≤ length band) × (length band ≤ maxBand)
   rows-fit rows y h k w l =
       let p : length band ≡ rows * bytes′ = l ∙ ap (λ (n : ℕ). rows * n) (sym is) in
       let q : suc y * bytes′ ≤ rows * bytes′ = mul-le-mul-right bytes′ h in
-      let r : rows * bytes′ ≤ 64 * bytes′ = mul-le-mul-right bytes′ k in
+      let r : rows * bytes′ ≤ maxRows * bytes′ = mul-le-mul-right bytes′ k in
       (omega (arith, suc-mul y bytes′), omega arith)
 
 pub row-inside : (width : ℕ) (band : List ℕ) (rows y : ℕ) → y < rows → length band ≡ rows * rowBytes width
@@ -209,13 +211,14 @@ row-inside width band rows y h l =
 pub record Sizes (y bytes′ len : ℕ) : Type 0 where
   pub inside : y * bytes′ + bytes′ ≤ len
   pub least : bytes′ ≤ y * bytes′
-  pub few : y * bytes′ ≤ 16384
-  pub narrow : bytes′ ≤ 256
+  pub few : y * bytes′ ≤ maxBand
+  pub narrow : bytes′ ≤ lastBytes
 
-pub sizes : (width y bytes′ len : ℕ) → bytes′ ≡ rowBytes width → width ≤ 2048 → 1 ≤ y → y < 64 → y * rowBytes width + rowBytes width ≤ len → Sizes y bytes′ len
+pub sizes : (width y bytes′ len : ℕ) → bytes′ ≡ rowBytes width → width ≤ maxWidth → 1 ≤ y → y < maxRows
+    → y * rowBytes width + rowBytes width ≤ len → Sizes y bytes′ len
 sizes width y bytes′ len is w h k l =
     let m : y * bytes′ ≡ y * rowBytes width = ap (λ (n : ℕ). y * n) is in
-    let f : y * bytes′ ≤ 64 * bytes′ = mul-le-mul-right bytes′ (omega arith) in
+    let f : y * bytes′ ≤ maxRows * bytes′ = mul-le-mul-right bytes′ (omega arith) in
     record { inside = omega arith; least = omega (arith, mul-le-mul-right bytes′ h); few = omega arith; narrow = omega arith }
 
 -- a part of that many bytes is wide enough
@@ -224,7 +227,7 @@ part-wide width bytes′ n m band is e h = simp (length-take, length-drop) (omeg
 
 -- the first row, under the page's last
 pub band-first : (width : ℕ) (last band t₀ out₀ : List ℕ) (bytes′ : ℕ) (c : Coder) (t′ : List ℕ) (c′ : Coder) (out′ : List ℕ) (at′ : ℕ)
-    → bytes′ ≡ rowBytes width → 1 ≤ width → width ≤ 2048 → lift c [] ≡ start → LawfulTable t₀
+    → bytes′ ≡ rowBytes width → 1 ≤ width → width ≤ maxWidth → lift c [] ≡ start → LawfulTable t₀
     → RowDone width (pelsTo last width) (take bytes′ band) t₀ c out₀ 0 t′ c′ out′ at′ → BandAt width last band t₀ out₀ (rowAt width band 0) t′ c′ out′ at′ 1
 band-first width last band t₀ out₀ bytes′ c t′ c′ out′ at′ is h k s l r =
     let e : take bytes′ band ≡ rowAt width band 0 = row-first width band bytes′ is in
@@ -250,7 +253,7 @@ NextDone width band run out run′ out′ n =
     (run′ .table .entries) (run′ .coder) out′ (run′ .at)
 
 -- one row more: k is the row that is due
-pub keep-next : (width : ℕ) (band : List ℕ) (run₀ run run′ : Run) (out₀ out out′ : List ℕ) (y k : ℕ) → 1 ≤ width → width ≤ 2048 → 1 ≤ y
+pub keep-next : (width : ℕ) (band : List ℕ) (run₀ run run′ : Run) (out₀ out out′ : List ℕ) (y k : ℕ) → 1 ≤ width → width ≤ maxWidth → 1 ≤ y
     → RowsKeep width band run₀ out₀ run out y → NextDone width band run out run′ out′ k → k ≡ y → RowsKeep width band run₀ out₀ run′ out′ (y + 1)
 keep-next width band run₀ run run′ out₀ out out′ y k h w j r d e last t o b =
     subst₂ (λ (n m : ℕ). BandAt width last band t o (rowAt width band n) (run′ .table .entries) (run′ .coder) out′ (run′ .at) m) (omega arith) (sym (add-one y))

@@ -1,7 +1,7 @@
 // Bands: written into a lent buffer.
 ghost use mathlib.Core.Path.{_≡_};
 ghost use mathlib.Core.List.{[]};
-ghost use Prim.Native.Nat.{_+_, _-_, _*_, _%_, _≤_, _<_, _^_};
+ghost use Prim.Native.Nat.{_+_, _-_, _*_, _%_, _≤_, _<_};
 ghost use mathlib.Core.Bool.{true, _&&_};
 ghost use lib.Dec.{leb};
 ghost use lib.ListN.{length};
@@ -10,16 +10,16 @@ ghost use Rattle.octets.specs.Fit.{Ready};
 ghost use Rattle.octets.specs.Lift.{lift};
 ghost use Rattle.template.specs.Pels.{pelsTo, rowAt, rowBytes};
 ghost use Rattle.template.specs.White.{Clear};
-ghost use Rattle.band.specs.Band.{maxCode, written, lastRow, wroteAnswer, wroteOut};
+ghost use Rattle.limits.specs.Limits.{maxWidth, maxRows, maxCode, farthest, maxShifts};
+ghost use Rattle.band.specs.Band.{written, lastRow, wroteAnswer, wroteOut};
 ghost use Rattle.band.specs.Rows.{stillPel, movedPel, Pelled, RowDone};
 ghost use Rattle.band.specs.Bands.{BandAt};
 use estimate::Table;
+use limits::MAX_CODE;
+use limits::ROW;
 use octets::Coder;
 use octets::Put;
 use template::Window;
-
-// No code is longer.
-pub const MAX_CODE: usize = 32768;
 
 // The entry of index 19, whose Q is 71 hex. Below it runs are too short to be looked for.
 const LEARNED: u8 = 38;
@@ -50,7 +50,7 @@ pub struct Wrote {
     pub length: usize,
     pub shifts: u64,
     pub table: Table,
-    pub last: [u8; 256],
+    pub last: [u8; ROW],
 }
 
 // An expected pel with no shift: most are such.
@@ -86,7 +86,7 @@ pub fn moved_pel(v: Put, entry: u8) -> Pel
 
 // One pel in the context whose entry is e: the expected one, or the other. Each has its own way, so that neither asks again which it is.
 fn put_pel(coder: Coder, e: u8, expected: bool) -> Pel
-    requires { ⌜ Ready (lift coder []) × LawfulEntry e × (coder .interval .count < 2 ^ 32) ⌝ }
+    requires { ⌜ Ready (lift coder []) × LawfulEntry e × (coder .interval .count < maxShifts) ⌝ }
     ensures { λ r. ⌜ Pelled coder e expected r ⌝ }
 {
     let q = estimate::row_of(e);
@@ -121,7 +121,7 @@ pub fn starts_run(white: u8, cx: usize, p: u8, width: usize) -> bool
 
 // Where the run at x ends: as it is known, or by a look along both rows.
 fn run_end(row: &[u8], above: &[u8], width: usize, x: usize, known: usize) -> usize
-    requires { ⌜ (width ≤ 2048) × (width ≤ 8 * length (now row)) × (width ≤ 8 * length (now above)) × (x < width)
+    requires { ⌜ (width ≤ maxWidth) × (width ≤ 8 * length (now row)) × (width ≤ 8 * length (now above)) × (x < width)
         × Clear (now row) (pelsTo (now above) width) width x known ⌝ }
     ensures { λ r. ⌜ (x ≤ r) × Clear (now (row .entry)) (pelsTo (now (above .entry)) width) width x r ⌝ }
 {
@@ -133,7 +133,9 @@ fn run_end(row: &[u8], above: &[u8], width: usize, x: usize, known: usize) -> us
 
 // One row, under the row above it.
 pub fn write_row(row: &[u8], above: &[u8], width: usize, start: Run, out: &mut [u8]) -> Run
-    requires { ⌜ (width ≤ 2048) × (width ≤ 8 * length (now row)) × (width ≤ 8 * length (now above)) × (1 ≤ width) × LawfulTable (start .table .entries) × Ready (lift (start .coder) []) × (start .coder .interval .count < 2 ^ 31) × (start .at < 800000000) ⌝ }
+    requires { ⌜ (width ≤ maxWidth) × (width ≤ 8 * length (now row)) × (width ≤ 8 * length (now above)) × (1 ≤ width)
+        × LawfulTable (start .table .entries) × Ready (lift (start .coder) [])
+        × (start .coder .interval .count + 12 * maxWidth ≤ maxShifts) × (start .at + 2 * maxWidth ≤ farthest) ⌝ }
     ensures { λ r. ⌜ RowDone width (pelsTo (now (above .entry)) width) (now (row .entry)) (start .table .entries) (start .coder) (now (out .entry)) (start .at) (r .table .entries) (r .coder) (now (out .exit)) (r .at) ⌝ }
 {
     let mut coder = start.coder;
@@ -177,7 +179,9 @@ pub fn write_row(row: &[u8], above: &[u8], width: usize, start: Run, out: &mut [
 
 // The row y of a band, under the row before it.
 pub fn write_next(pels: &[u8], y: usize, width: usize, run: Run, out: &mut [u8]) -> Run
-    requires { ⌜ (1 ≤ width) × (width ≤ 2048) × (1 ≤ y) × (y < 64) × (y * rowBytes width + rowBytes width ≤ length (now pels)) × LawfulTable (run .table .entries) × Ready (lift (run .coder) []) × (run .coder .interval .count < 2 ^ 31) × (run .at < 800000000) ⌝ }
+    requires { ⌜ (1 ≤ width) × (width ≤ maxWidth) × (1 ≤ y) × (y < maxRows) × (y * rowBytes width + rowBytes width ≤ length (now pels))
+        × LawfulTable (run .table .entries) × Ready (lift (run .coder) [])
+        × (run .coder .interval .count + 12 * maxWidth ≤ maxShifts) × (run .at + 2 * maxWidth ≤ farthest) ⌝ }
     ensures { λ r. ⌜ RowDone width (pelsTo (rowAt width (now (pels .entry)) (y - 1)) width) (rowAt width (now (pels .entry)) y) (run .table .entries) (run .coder) (now (out .entry)) (run .at) (r .table .entries) (r .coder) (now (out .exit)) (r .at) ⌝ }
 {
     let bytes = template::row_bytes(width);
@@ -190,13 +194,14 @@ pub fn write_next(pels: &[u8], y: usize, width: usize, run: Run, out: &mut [u8])
 // The rows of a band, the first under the page's last row.
 pub fn write_rows(
     pels: &[u8],
-    last: [u8; 256],
+    last: [u8; ROW],
     width: usize,
     rows: usize,
     table: Table,
     out: &mut [u8],
 ) -> Run
-    requires { ⌜ (1 ≤ width) × (width ≤ 2048) × (1 ≤ rows) × (rows ≤ 64) × (length (now pels) ≡ rows * rowBytes width) × LawfulTable (table .entries) ⌝ }
+    requires { ⌜ (1 ≤ width) × (width ≤ maxWidth) × (1 ≤ rows) × (rows ≤ maxRows) × (length (now pels) ≡ rows * rowBytes width)
+        × LawfulTable (table .entries) ⌝ }
     ensures { λ r. ⌜ BandAt width last (now (pels .entry)) (table .entries) (now (out .entry)) (rowAt width (now (pels .entry)) (rows - 1)) (r .table .entries) (r .coder) (now (out .exit)) (r .at) rows ⌝ }
 {
     let bytes = template::row_bytes(width);
@@ -216,13 +221,13 @@ pub fn write_rows(
 }
 
 // The last row of a band, in the room that a page has for it.
-pub fn last_row(pels: &[u8], width: usize, rows: usize) -> [u8; 256]
-    requires { ⌜ (1 ≤ width) × (width ≤ 2048) × (1 ≤ rows) × (rows ≤ 64) × (length (now pels) ≡ rows * rowBytes width) ⌝ }
+pub fn last_row(pels: &[u8], width: usize, rows: usize) -> [u8; ROW]
+    requires { ⌜ (1 ≤ width) × (width ≤ maxWidth) × (1 ≤ rows) × (rows ≤ maxRows) × (length (now pels) ≡ rows * rowBytes width) ⌝ }
     ensures { λ r. ⌜ r ≡ lastRow width rows (now (pels .entry)) ⌝ }
 {
     let bytes = template::row_bytes(width);
     let from = (rows - 1) * bytes;
-    let mut row = [0u8; 256];
+    let mut row = [0u8; ROW];
     let mut i: usize = 0;
     while i < bytes {
         row[i] = pels[from + i];
@@ -241,13 +246,14 @@ pub fn has_room(n: usize, len: usize) -> bool
 // A band into a lent buffer: its code in front and the rest kept, or all zero where there is no room.
 pub fn write_band(
     table: Table,
-    last: [u8; 256],
+    last: [u8; ROW],
     width: usize,
     rows: usize,
     pels: &[u8],
     out: &mut [u8],
 ) -> Wrote
-    requires { ⌜ (1 ≤ width) × (width ≤ 2048) × (1 ≤ rows) × (rows ≤ 64) × (length (now pels) ≡ rows * rowBytes width) × LawfulTable (table .entries) ⌝ }
+    requires { ⌜ (1 ≤ width) × (width ≤ maxWidth) × (1 ≤ rows) × (rows ≤ maxRows) × (length (now pels) ≡ rows * rowBytes width)
+        × LawfulTable (table .entries) ⌝ }
     ensures { λ r. ⌜ (r ≡ wroteAnswer (written width rows (table .entries) last (now (pels .entry))) table last (now (out .entry)))
         × (now (out .exit) ≡ wroteOut (written width rows (table .entries) last (now (pels .entry))) (now (out .entry))) ⌝ }
 {

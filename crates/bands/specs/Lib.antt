@@ -1,2 +1,3 @@
+pub mod Served
 pub mod Writes
 pub mod Reads

@@ -1,170 +1,177 @@
 -- Read band: when it is refused, and what it leaves of the desk and the lent output. Assumes nothing.
 use mathlib.Core.Path.{_≡_, refl, sym, ap, _∙_}
-use Prim.Native.Nat.{ℕ, _*_, _≤_, _<_}
-use native.Mathlib.Omega.{arith}
-use mathlib.Core.Bool.{Bool, true, false, not, cond}
+use Prim.Native.Nat.{ℕ, _*_}
+use mathlib.Core.Bool.{Bool, true, false, not, cond, _&&_}
 use mathlib.Core.Option.{Option, some, none}
 use mathlib.Core.List.{List, [], _∷_}
 use lib.Dec.{eqb, leb, ltb}
-use lib.ListN.{getD, set, length}
-use borrow.Author.Tests.{leb-true, leb-false, lt-ltb, le-ltb, eq-eqb, ne-eqb}
+use lib.ListN.{length}
+use borrow.Author.Tests.{leb-true, leb-false, lt-ltb, le-ltb}
+use Rattle.limits.specs.Limits.{maxRows, maxCode}
+use Rattle.ground.specs.Bools.{no-way}
 use Rattle.ground.specs.Options.{given, orElse}
+use Rattle.store.specs.Store.{inFront, cleared}
 use Rattle.template.specs.Pels.{rowBytes}
-use Rattle.band.specs.Band.{maxRows, maxCode}
+use Rattle.band.specs.Band.{Written}
 use Rattle.reader.specs.declared.Read.{Read}
 use Rattle.reader.specs.Found.{rowsFit, readAnswer, readOut, BandFound}
 use Rattle.reader.specs.Reading.{readBack, right-found}
 use Rattle.desk.specs.declared.Ask.{Ask}
-use Rattle.desk.specs.declared.Page.{Page}
-use Rattle.desk.specs.declared.Desk.{Desk}
-use Rattle.desk.specs.declared.Outcome.{Outcome}
-use Rattle.desk.specs.declared.Found.{Found}
-use Rattle.desk.specs.declared.Found.the-variants.{At, Nothing}
-use Rattle.desk.specs.Places.{noPage, pageFound, isFound}
+use Rattle.desk.specs.Desk.{Page, Desk}
+use Rattle.desk.specs.Places.{noPage}
 use Rattle.desk.specs.Lawful.{within}
-use Rattle.desk.specs.Finding.{found-page}
-use Rattle.desk.specs.Refusals.{Row, row, refusal, lentAfter}
+use Rattle.desk.specs.Refusals.{Row, row, refusal}
 use Rattle.desk.specs.Calls.{reads}
-use Rattle.desk.specs.Standing.{stand, openPage, pageBy}
-use Rattle.desk.specs.Tests.{bandOf, foundIn, tests}
-use Rattle.desk.specs.Effects.{servedPage, effect}
-use Rattle.desk.specs.Changes.{pagesAfter, placesAfter, changed}
-use Rattle.desk.specs.Allowed.{refused, done, number, Allowed}
-use Rattle.bands.specs.Writes.{pageAfter}
-use Rattle.calls.specs.Refusing.{FirstTwo, early-here, early-past, here, past, at-end, refuses, clears, accepts}
-
--- by what reading gives: no room, damaged, or the page served
-unfoldable pub readFound : Desk → ℕ → Page → Read → Outcome
-readFound d i p r =
-    cond (r .room)
-    (cond (r .good) (done (r .length) (r .shifts) (record { pages = set (d .pages) i (pageAfter p (r .table) (r .last)); places = d .places }))
-    (refused 10 d))
-    (refused 9 d)
-
-module _ (d : Desk) (i : ℕ) (p : Page) (r : Read) where
-  pub found-full : r .room ≡ false → refused 9 d ≡ readFound d i p r
-  unfolding readFound
-  found-full e = rw e
-
-  pub found-damaged : r .room ≡ true → r .good ≡ false → refused 10 d ≡ readFound d i p r
-  unfolding readFound
-  found-damaged e g = rw (e, g)
-
-  pub found-band : (served : Page) → r .room ≡ true → r .good ≡ true → served ≡ pageAfter p (r .table) (r .last)
-      → done (r .length) (r .shifts) (record { pages = set (d .pages) i served; places = d .places }) ≡ readFound d i p r
-  unfolding readFound pageAfter
-  found-band served e g q = rw (e, g, q)
+use Rattle.desk.specs.Standing.{stand, pageOf, openPage}
+use Rattle.desk.specs.Tests.{unlawful, unknown, bandOf, foundIn, tests}
+use Rattle.desk.specs.Effects.{serves, bandIn, effect}
+use Rattle.desk.specs.Allowed.{number, effectOn}
+use Rattle.refusals.specs.Refusing.{pagedTo, StoodTo, here, past, at-end}
 
 -- longer than the buffer: not within it
-over : (a b : ℕ) (y : Bool) → leb b a ≡ y → ltb a b ≡ not y
-over a b true e = le-ltb a b (leb-true b a e)
-over a b false e = lt-ltb a b (leb-false b a e)
+over : (a b : ℕ) → ltb a b ≡ not (leb b a)
+over a b = go (leb b a) refl
+  where
+    go : (y : Bool) → leb b a ≡ y → ltb a b ≡ not y
+    go true e = le-ltb a b (leb-true b a e)
+    go false e = lt-ltb a b (leb-false b a e)
 
--- ---- the number: n is that of the first two tests
-module _ (d : Desk) (ask : Ask) (code out : List ℕ) where
-  -- the tests that need the page
-  abbrev onPage : Page → List Row
-  onPage p =
-      row 7 (not (eqb (p .state) 2)) ∷ row 9 (ltb (length out) (ask .rows * rowBytes (p .width))) ∷ row 10 (not (given (foundIn readBack p
-      (ask .rows) code))) ∷ []
+-- the tests that need the page
+abbrev onPage : Ask → List ℕ → List ℕ → Page → List Row
+onPage ask code out p =
+    row 9 (ltb (length out) (ask .rows * rowBytes (p .width))) ∷ row 10 (not (given (foundIn readBack p (ask .rows) code))) ∷ []
 
-  module _ (n : ℕ) (first : FirstTwo d (ask .key) n) where
-    pub read-early : (n ≡ 0 → ⊥) → number readBack d (reads ask code out) ≡ n
-    unfolding number tests
-    read-early h = early-here d (ask .key) n first _ h
+-- both sizes that are tested first are right
+abbrev pub sizes : Ask → List ℕ → Bool
+sizes ask code = within 1 (ask .rows) maxRows && leb (length code) maxCode
 
-    module _ (z : n ≡ 0) where
-      pub read-rows : within 1 (ask .rows) maxRows ≡ false → number readBack d (reads ask code out) ≡ 6
-      unfolding number tests
-      read-rows w = early-past d (ask .key) n first _ z ∙ here _ _ (ap not w)
+-- the two tests of size are one
+two-sizes : (u v : Row) (w l : Bool) (rs : List Row)
+    → refusal (u ∷ v ∷ row 6 (not w) ∷ row 6 (not l) ∷ rs) ≡ refusal (u ∷ v ∷ row 6 (not (w && l)) ∷ rs)
+unfolding refusal
+two-sizes u v true l rs = refl
+two-sizes u v false l rs = refl
 
-      module _ (w : within 1 (ask .rows) maxRows ≡ true) where
-        pub read-long : maxCode < length code → number readBack d (reads ask code out) ≡ 6
-        unfolding number tests
-        read-long h = early-past d (ask .key) n first _ z ∙ past _ _ (ap not w) ∙ here _ _ (lt-ltb maxCode (length code) h)
+pub read-number : (d : Desk) (ask : Ask) (code out : List ℕ)
+    → number readBack d (reads ask code out)
+    ≡ refusal (pagedTo d (ask .key) (sizes ask code) 2 (onPage ask code out (pageOf (stand d (ask .key)))))
+unfolding number tests stand
+read-number d ask code out =
+    ap (λ (b : Bool). refusal (unlawful (stand d (ask .key)) ∷ unknown (ask .key) ∷ row 6 (not (within 1 (ask .rows) maxRows)) ∷ row 6 b ∷ rest))
+    (over maxCode (length code))
+    ∙ two-sizes (unlawful (stand d (ask .key))) (unknown (ask .key)) (within 1 (ask .rows) maxRows) (leb (length code) maxCode) rest
+  where
+    rest : List Row
+    rest =
+        row 2 (not (given (openPage d (ask .key)))) ∷ row 7 (not (eqb (orElse (openPage d (ask .key)) noPage .state) 2))
+        ∷ onPage ask code out (orElse (openPage d (ask .key)) noPage)
 
-        module _ (l : length code ≤ maxCode) where
-          pub read-none : pageFound d (ask .key) ≡ Nothing → number readBack d (reads ask code out) ≡ 2
-          unfolding number tests stand
-          read-none f =
-              early-past d (ask .key) n first _ z ∙ past _ _ (ap not w) ∙ past _ _ (le-ltb maxCode (length code) l)
-              ∙ here _ _ (ap not (found-page d (pageFound d (ask .key))) ∙ ap (λ (x : Found). not (isFound x)) f)
+-- ---- on the page, by what reading gives
+module _ (d : Desk) (ask : Ask) (code out : List ℕ) (i : ℕ) (t : StoodTo d (ask .key) (sizes ask code) 2 i) (page : Page)
+    (at : pageOf (stand d (ask .key)) ≡ page) (r : Read) (after : List ℕ)
+    (b : BandFound (page .width) (ask .rows) (page .table) (page .last) code out r after) where
+  abbrev fits : Bool
+  fits = rowsFit (page .width) (ask .rows) out
 
-          module _ (i : ℕ) (f : pageFound d (ask .key) ≡ At i) where
-            abbrev page : Page
-            page = getD (d .pages) i noPage
+  on : number readBack d (reads ask code out)
+      ≡ refusal (row 9 (not fits) ∷ row 10 (not (given (foundIn readBack page (ask .rows) code))) ∷ [])
+  unfolding rowsFit
+  on =
+      read-number d ask code out ∙ t .rest _ ∙ ap (λ (p : Page). refusal (onPage ask code out p)) at
+      ∙ ap (λ (x : Bool). refusal (row 9 x ∷ row 10 (not (given (foundIn readBack page (ask .rows) code))) ∷ []))
+      (over (length out) (ask .rows * rowBytes (page .width)))
 
-            at : orElse (openPage d (ask .key)) noPage ≡ page
-            at = ap (λ (x : Found). orElse (pageBy d x) noPage) f
+  -- what reading gives, with a band and without room
+  abbrev pub answered : List ℕ → Read
+  answered band =
+      let w : Written = bandOf page (ask .rows) band in
+      record { room = true; good = true; length = length band; shifts = w .shifts; table = record { entries = w .table }; last = w .last }
 
-            on : number readBack d (reads ask code out) ≡ refusal (onPage page)
-            unfolding number tests stand
-            on =
-                early-past d (ask .key) n first _ z ∙ past _ _ (ap not w) ∙ past _ _ (le-ltb maxCode (length code) l)
-                ∙ past _ _ (ap not (found-page d (pageFound d (ask .key))) ∙ ap (λ (x : Found). not (isFound x)) f) ∙ ap (λ (p : Page). refusal
-                (onPage p)) at
+  abbrev unanswered : Read
+  unanswered = record { room = false; good = false; length = 0; shifts = 0; table = page .table; last = page .last }
 
-            pub read-other-way : (page .state ≡ 2 → ⊥) → number readBack d (reads ask code out) ≡ 7
-            read-other-way h = on ∙ here _ _ (ap not (ne-eqb (page .state) 2 h))
+  -- room is told as it is
+  room-is : r .room ≡ fits
+  unfolding readAnswer bandOf
+  room-is = ap (λ (x : Read). x .room) (b .answer) ∙ go (b .found)
+    where
+      go : (f : Option (List ℕ)) → readAnswer f (page .width) (ask .rows) (page .table) (page .last) out .room ≡ fits
+      go none = refl
+      go (some band) = by fits
+        where
+          by : (y : Bool) → cond y (answered band) unanswered .room ≡ y
+          by true = refl
+          by false = refl
 
-            module _ (o : page .state ≡ 2) where
-              backward : not (eqb (page .state) 2) ≡ false
-              backward = ap not (eq-eqb (page .state) 2 o)
+  pub read-room : r .room ≡ false → number readBack d (reads ask code out) ≡ 9
+  read-room e = on ∙ here _ _ (ap not (sym room-is ∙ e))
 
-              pub read-room : rowsFit (page .width) (ask .rows) out ≡ false → number readBack d (reads ask code out) ≡ 9
-              unfolding rowsFit
-              read-room h = on ∙ past _ _ backward ∙ here _ _ (over (length out) (ask .rows * rowBytes (page .width)) false h)
+  pub read-full : r .room ≡ false → after ≡ cleared out
+  unfolding readOut
+  read-full e = b .lent ∙ go (b .found)
+    where
+      go : (f : Option (List ℕ)) → readOut f (page .width) (ask .rows) out ≡ cleared out
+      go none = refl
+      go (some band) = rw (sym room-is ∙ e)
 
-              -- with room, what is found decides
-              pub read-found : rowsFit (page .width) (ask .rows) out ≡ true → (found : Option (List ℕ)) → foundIn readBack page (ask .rows) code
-                  ≡ found
-                  → number readBack d (reads ask code out) ≡ refusal (row 10 (not (given found)) ∷ [])
-              unfolding rowsFit
-              read-found h found e =
-                  on ∙ past _ _ backward ∙ past _ _ (over (length out) (ask .rows * rowBytes (page .width)) true h)
-                  ∙ ap (λ (g : Option (List ℕ)). refusal (row 10 (not (given g)) ∷ [])) e
-
-  -- ---- the code was read
-  module _ (i : ℕ) (f : pageFound d (ask .key) ≡ At i) (rd : Read) (after : List ℕ) where
-    abbrev held : Page
-    held = getD (d .pages) i noPage
-
-    abbrev fits : Bool
-    fits = rowsFit (held .width) (ask .rows) out
-
-    -- no room
-    full : (found : Option (List ℕ)) (r : Outcome) → fits ≡ false → number readBack d (reads ask code out) ≡ 9
-        → rd ≡ readAnswer found (held .width) (ask .rows) (held .table) (held .last) out → after ≡ readOut found (held .width) (ask .rows) out
-        → r ≡ readFound d i held rd → Allowed d (reads ask code out) r after
-    unfolding readFound readAnswer readOut
-    full (some band) r y e q l a =
-        let g = rw y at q in
-        refuses d (reads ask code out) 9 r after e (λ z. omega arith) (a ∙ rw g) (l ∙ rw y (clears out))
-    full none r y e q l a = let g = rw y at q in refuses d (reads ask code out) 9 r after e (λ z. omega arith) (a ∙ rw g) (l ∙ clears out)
-
-    -- a band, or damaged
-    fitting : (found : Option (List ℕ)) (r : Outcome) → fits ≡ true → foundIn readBack held (ask .rows) code ≡ found
-        → number readBack d (reads ask code out) ≡ refusal (row 10 (not (given found)) ∷ [])
-        → rd ≡ readAnswer found (held .width) (ask .rows) (held .table) (held .last) out → after ≡ readOut found (held .width) (ask .rows) out
-        → r ≡ readFound d i held rd → Allowed d (reads ask code out) r after
-    unfolding readFound readAnswer readOut effect changed pagesAfter placesAfter stand servedPage pageAfter bandOf lentAfter
-    fitting (some band) r y s e q l a =
-        let g = rw y at q in
-        accepts d (reads ask code out) r after (e ∙ past _ _ refl ∙ at-end) (a ∙ rw (f, s, g)) (l ∙ rw (y, f, s))
-    fitting none r y s e q l a =
-        let g = rw y at q in
-        refuses d (reads ask code out) 10 r after (e ∙ here _ _ refl) (λ z. omega arith) (a ∙ rw g) l
-
-    pub read-answers : (r : Outcome) → r ≡ readFound d i held rd → BandFound (held .width) (ask .rows) (held .table) (held .last) code out rd after
-        → (fits ≡ false → number readBack d (reads ask code out) ≡ 9)
-        → (fits ≡ true → (found : Option (List ℕ)) → foundIn readBack held (ask .rows) code ≡ found → number readBack d (reads ask code out)
-        ≡ refusal (row 10 (not (given found)) ∷ []))
-        → Allowed d (reads ask code out) r after
+  -- ---- with room, what is found decides
+  module _ (room : r .room ≡ true) where
+    found-is : foundIn readBack page (ask .rows) code ≡ b .found
     unfolding foundIn
-    read-answers r p b crowded end = go fits refl
+    found-is = sym (right-found (page .width) (ask .rows) (page .table .entries) (page .last) code (b .found) (b .right (sym room-is ∙ room)))
+
+    told : number readBack d (reads ask code out) ≡ refusal (row 10 (not (given (b .found))) ∷ [])
+    told =
+        on ∙ past _ _ (ap not (sym room-is ∙ room)) ∙ ap (λ (f : Option (List ℕ)). refusal (row 10 (not (given f)) ∷ [])) found-is
+
+    -- it was told good where a band was found
+    good-is : r .good ≡ given (b .found)
+    unfolding readAnswer
+    good-is = ap (λ (x : Read). x .good) (b .answer) ∙ go (b .found)
       where
-        go : (y : Bool) → fits ≡ y → Allowed d (reads ask code out) r after
-        go false y = full (b .found) r y (crowded y) (b .answer) (b .lent) p
-        go true y =
-            let s = sym (right-found (held .width) (ask .rows) (held .table .entries) (held .last) code (b .found) (b .right y)) in
-            fitting (b .found) r y s (end y (b .found) s) (b .answer) (b .lent) p
+        go : (f : Option (List ℕ)) → readAnswer f (page .width) (ask .rows) (page .table) (page .last) out .good ≡ given f
+        go none = refl
+        go (some band) = rw (sym room-is ∙ room)
+
+    pub read-damaged : r .good ≡ false → number readBack d (reads ask code out) ≡ 10
+    read-damaged e = told ∙ here _ _ (ap not (sym good-is ∙ e))
+
+    pub damaged-out : r .good ≡ false → after ≡ cleared out
+    unfolding readOut
+    damaged-out e = b .lent ∙ go (b .found) (sym good-is ∙ e)
+      where
+        go : (f : Option (List ℕ)) → given f ≡ false → readOut f (page .width) (ask .rows) out ≡ cleared out
+        go none g = refl
+        go (some band) g = no-way g
+
+    module _ (good : r .good ≡ true) where
+      -- the band that was found
+      pub band : List ℕ
+      band = orElse (b .found) []
+
+      is-band : b .found ≡ some band
+      unfolding band
+      is-band = go (b .found) (sym good-is ∙ good)
+        where
+          go : (f : Option (List ℕ)) → given f ≡ true → f ≡ some (orElse f [])
+          go none g = no-way (sym g)
+          go (some l) g = refl
+
+      pub read-end : number readBack d (reads ask code out) ≡ 0
+      read-end = told ∙ past _ _ (ap not (sym good-is ∙ good)) ∙ at-end
+
+      pub read-gave : r ≡ answered band
+      unfolding readAnswer bandOf
+      read-gave =
+          b .answer ∙ ap (λ (f : Option (List ℕ)). readAnswer f (page .width) (ask .rows) (page .table) (page .last) out) is-band
+          ∙ rw (sym room-is ∙ room)
+
+      pub read-lent : after ≡ inFront band out
+      unfolding readOut
+      read-lent = b .lent ∙ ap (λ (f : Option (List ℕ)). readOut f (page .width) (ask .rows) out) is-band ∙ rw (sym room-is ∙ room)
+
+      pub read-effect : effectOn readBack d (reads ask code out) ≡ serves page (bandOf page (ask .rows) band) band out
+      unfolding effect
+      read-effect =
+          ap (λ (p : Page). serves p (bandOf p (ask .rows) (bandIn readBack p (ask .rows) code)) (bandIn readBack p (ask .rows) code) out) at
+          ∙ ap (λ (l : List ℕ). serves page (bandOf page (ask .rows) l) l out) (ap (λ (f : Option (List ℕ)). orElse f []) (found-is ∙ is-band))

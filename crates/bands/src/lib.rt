@@ -1,146 +1,99 @@
-// The band calls by value: write and read. Each tests its refusals in the order of their numbers' table.
-ghost use mathlib.Core.Path.{_≡_};
-ghost use Prim.Native.Nat.{_<_};
-ghost use lib.ListN.{set};
-ghost use Rattle.desk.specs.Lawful.{lawful};
+// The band calls, write and read. The book goes by value; the arrays are lent in place.
+ghost use Rattle.desk.specs.Parts.{partsOf, Sized};
 ghost use Rattle.desk.specs.Calls.{writes, reads};
-ghost use Rattle.desk.specs.Allowed.{done, Allowed};
-ghost use Rattle.bands.specs.Writes.{pageAfter};
-ghost use Rattle.bands.specs.Reads.{readFound};
+ghost use Rattle.desk.specs.Replies.{Serves};
 use desk::Ask;
-use desk::Desk;
-use desk::Found;
-use desk::Outcome;
-use desk::Page;
+use desk::Book;
+use desk::Direction;
+use desk::Reply;
 use estimate::Table;
-use reader::Read;
+use limits::CONTEXTS;
+use limits::MAX_CODE;
+use limits::MAX_ROWS;
+use limits::PAGES;
+use limits::PLACES;
+use limits::ROW;
+use refusals::Stands;
 
 // Write band: the code from the page's working table and last row, which both go on.
-fn write_when(d: Desk, ask: Ask, pels: &[u8], out: &mut [u8], good: bool) -> Outcome
-    requires { ⌜ good ≡ lawful d ⌝ }
-    ensures { λ r. ⌜ Allowed d (writes ask (now (pels .entry)) (now (out .entry))) r (now (out .exit)) ⌝ }
+pub fn write<'a, 'b, 'c>(
+    book: Book,
+    working: &'a mut [[u8; CONTEXTS]; PAGES],
+    rows: &'a mut [[u8; ROW]; PAGES],
+    learned: &'a mut [[u8; CONTEXTS]; PLACES],
+    ask: Ask,
+    pels: &'b [u8],
+    out: &'c mut [u8],
+) -> Reply
+    requires { ⌜ Sized (now working) (now rows) (now learned) ⌝ }
+    ensures { λ r. ⌜ Serves (partsOf book (now (working .entry)) (now (rows .entry)) (now (learned .entry))) (writes ask (now (pels .entry))
+        (now (out .entry))) (r .answer) (partsOf (r .book) (now (working .exit)) (now (rows .exit)) (now (learned .exit))) (now (out .exit)) ⌝ }
 {
+    let good = lawful::lawful_desk(book, working, rows, learned);
     let key = ask.key;
-    let early = lawful::early_refusal(good, key);
-    if early != 0 {
-        return desk::refused(early, d);
-    }
-    if !lawful::in_range(ask.rows, 64) {
-        return desk::refused(6, d);
-    }
-    let pages = d.pages;
-    let Found::At(i) = desk::find_page(pages, key) else {
-        return desk::refused(2, d);
+    let sized = lawful::in_range(ask.rows, MAX_ROWS);
+    let pages = book.pages;
+    let stands = refusals::page_to(good, key, sized, pages, Direction::Write);
+    let Stands::On(i) = stands else {
+        return refusals::turned_away(stands, book);
     };
     let page = pages[i];
-    if page.state != 1 {
-        return desk::refused(7, d);
-    }
     let width = page.width as usize;
-    let rows = ask.rows as usize;
-    if pels.len() != rows * template::row_bytes(width) {
-        return desk::refused(6, d);
+    let count = ask.rows as usize;
+    if pels.len() != count * template::row_bytes(width) {
+        return desk::refused(6, book);
     }
-    if !template::band_padded(pels, width, rows) {
-        return desk::refused(8, d);
+    if !template::band_padded(pels, width, count) {
+        return desk::refused(8, book);
     }
-    let table = page.table;
-    let last = page.last;
-    let wrote = band::write_band(table, last, width, rows, pels, out);
+    let entries = working[i];
+    let last = rows[i];
+    let table = Table { entries: entries };
+    let wrote = band::write_band(table, last, width, count, pels, out);
     if !wrote.room {
-        return desk::refused(9, d);
+        return desk::refused(9, book);
     }
     let row = wrote.last;
-    let served = served_page(page, wrote.table, row);
-    serve(d, i, served, wrote.length as u64, wrote.shifts)
-}
-
-// The page after a band: its table and last row.
-fn served_page(page: Page, table: Table, last: [u8; 256]) -> Page
-    ensures { λ r. ⌜ r ≡ pageAfter page table last ⌝ }
-{
-    Page {
-        state: page.state,
-        school: page.school,
-        class: page.class,
-        width: page.width,
-        table: table,
-        last: last,
-    }
-}
-
-// A band served: the page goes on in its slot, and no place changes, so that an abandoned page teaches nothing.
-fn serve(d: Desk, i: usize, page: Page, length: u64, shifts: u64) -> Outcome
-    requires { ⌜ i < 4 ⌝ }
-    ensures { λ r. ⌜ r ≡ done length shifts (record { pages = set (d .pages) i page; places = d .places }) ⌝ }
-{
-    let mut next = d;
-    next.pages[i] = page;
-    desk::done(length, shifts, next)
+    let next = desk::put_page(book, working, rows, i, page, wrote.table, row);
+    desk::done(wrote.length as u64, wrote.shifts, next)
 }
 
 // Read band: the rows that would have been written as exactly that code. The page's table and last row go on as the writer's did.
-fn read_when(d: Desk, ask: Ask, code: &[u8], out: &mut [u8], good: bool) -> Outcome
-    requires { ⌜ good ≡ lawful d ⌝ }
-    ensures { λ r. ⌜ Allowed d (reads ask (now (code .entry)) (now (out .entry))) r (now (out .exit)) ⌝ }
+pub fn read<'a, 'b, 'c>(
+    book: Book,
+    working: &'a mut [[u8; CONTEXTS]; PAGES],
+    rows: &'a mut [[u8; ROW]; PAGES],
+    learned: &'a mut [[u8; CONTEXTS]; PLACES],
+    ask: Ask,
+    code: &'b [u8],
+    out: &'c mut [u8],
+) -> Reply
+    requires { ⌜ Sized (now working) (now rows) (now learned) ⌝ }
+    ensures { λ r. ⌜ Serves (partsOf book (now (working .entry)) (now (rows .entry)) (now (learned .entry))) (reads ask (now (code .entry))
+        (now (out .entry))) (r .answer) (partsOf (r .book) (now (working .exit)) (now (rows .exit)) (now (learned .exit))) (now (out .exit)) ⌝ }
 {
+    let good = lawful::lawful_desk(book, working, rows, learned);
     let key = ask.key;
-    let early = lawful::early_refusal(good, key);
-    if early != 0 {
-        return desk::refused(early, d);
-    }
-    if !lawful::in_range(ask.rows, 64) {
-        return desk::refused(6, d);
-    }
-    if code.len() > 32768 {
-        return desk::refused(6, d);
-    }
-    let pages = d.pages;
-    let Found::At(i) = desk::find_page(pages, key) else {
-        return desk::refused(2, d);
+    let sized = lawful::in_range(ask.rows, MAX_ROWS) & (code.len() <= MAX_CODE);
+    let pages = book.pages;
+    let stands = refusals::page_to(good, key, sized, pages, Direction::Read);
+    let Stands::On(i) = stands else {
+        return refusals::turned_away(stands, book);
     };
     let page = pages[i];
-    if page.state != 2 {
-        return desk::refused(7, d);
-    }
     let width = page.width as usize;
-    let rows = ask.rows as usize;
-    let table = page.table;
-    let last = page.last;
-    let read = reader::read_band(table, last, width, rows, code, out);
-    read_found(d, i, page, read)
-}
-
-// What was found in a code: no room, damaged, or a band.
-fn read_found(d: Desk, i: usize, page: Page, read: Read) -> Outcome
-    requires { ⌜ i < 4 ⌝ }
-    ensures { λ r. ⌜ r ≡ readFound d i page read ⌝ }
-{
+    let count = ask.rows as usize;
+    let entries = working[i];
+    let last = rows[i];
+    let table = Table { entries: entries };
+    let read = reader::read_band(table, last, width, count, code, out);
     if !read.room {
-        return desk::refused(9, d);
+        return desk::refused(9, book);
     }
     if !read.good {
-        return desk::refused(10, d);
+        return desk::refused(10, book);
     }
-    let last = read.last;
-    let served = served_page(page, read.table, last);
-    serve(d, i, served, read.length as u64, read.shifts)
-}
-
-// ---- The calls. Each tests the desk itself.
-
-// Write a band.
-pub fn write(d: Desk, ask: Ask, pels: &[u8], out: &mut [u8]) -> Outcome
-    ensures { λ r. ⌜ Allowed d (writes ask (now (pels .entry)) (now (out .entry))) r (now (out .exit)) ⌝ }
-{
-    let good = lawful::lawful_desk(d);
-    write_when(d, ask, pels, out, good)
-}
-
-// Read a band.
-pub fn read(d: Desk, ask: Ask, code: &[u8], out: &mut [u8]) -> Outcome
-    ensures { λ r. ⌜ Allowed d (reads ask (now (code .entry)) (now (out .entry))) r (now (out .exit)) ⌝ }
-{
-    let good = lawful::lawful_desk(d);
-    read_when(d, ask, code, out, good)
+    let row = read.last;
+    let next = desk::put_page(book, working, rows, i, page, read.table, row);
+    desk::done(read.length as u64, read.shifts, next)
 }

@@ -1,11 +1,15 @@
 // The limits of document 01, on both sides of each: what is asked, then the answer's number, length and S.
+ghost use Rattle.desk.specs.Parts.{Sized};
 use desk::Answer;
 use desk::Ask;
-use desk::Desk;
+use desk::Book;
 use desk::Direction;
 use desk::Key;
 use desk::Opening;
-use desk::Outcome;
+use limits::CONTEXTS;
+use limits::PAGES;
+use limits::PLACES;
+use limits::ROW;
 
 // The contexts whose byte is not 00.
 fn put_contexts(table: &[u8]) {
@@ -35,69 +39,119 @@ fn key_of(school: u64, class: u64) -> Key {
     }
 }
 
-fn open_page(d: Desk, key: Key, width: u64) -> Outcome {
-    let ask = Opening {
+// A page to write, of that width.
+fn page_of(key: Key, width: u64) -> Opening {
+    Opening {
         key: key,
         direction: Direction::Write,
         width: width,
-    };
-    calls::open(d, ask)
-}
-
-fn write_band(d: Desk, key: Key, rows: u64, pels: &[u8], out: &mut [u8]) -> Outcome {
-    let ask = Ask {
-        key: key,
-        rows: rows,
-    };
-    bands::write(d, ask, pels, out)
-}
-
-// A page of width 1 for (school 1, class 1), on an empty desk.
-fn new_page() -> Desk {
-    let opened = open_page(desk::empty_desk(), key_of(1, 1), 1);
-    opened.desk
-}
-
-// A desk on which classes 1 to n have each been opened; each is closed again where that is asked.
-fn with_classes(n: u64, closed: bool) -> Desk {
-    let mut d = desk::empty_desk();
-    let mut i: u64 = 0;
-    while i < n {
-        i += 1;
-        let opened = open_page(d, key_of(1, i), 1);
-        d = opened.desk;
-        if closed {
-            let gone = calls::close(d, key_of(1, i));
-            d = gone.desk;
-        }
     }
-    d
+}
+
+// A band of that many rows.
+fn band_of(key: Key, count: u64) -> Ask {
+    Ask {
+        key: key,
+        rows: count,
+    }
 }
 
 fn width_line(name: &[u8], width: u64) {
-    let opened = open_page(desk::empty_desk(), key_of(1, 1), width);
+    let mut working = [[0u8; CONTEXTS]; PAGES];
+    let mut rows = [[0u8; ROW]; PAGES];
+    let mut learned = [[0u8; CONTEXTS]; PLACES];
+    let book = desk::emptied(&mut working, &mut rows, &mut learned);
+    let ask = page_of(key_of(1, 1), width);
+    let opened = pages::open(book, &mut working, &mut rows, &mut learned, ask);
     line(name, opened.answer);
 }
 
+// An empty desk with a page of width 1 for (school 1, class 1).
+fn new_page<'a>(
+    working: &'a mut [[u8; CONTEXTS]; PAGES],
+    rows: &'a mut [[u8; ROW]; PAGES],
+    learned: &'a mut [[u8; CONTEXTS]; PLACES],
+) -> Book
+    ensures { λ _. ⌜ Sized (now (working .exit)) (now (rows .exit)) (now (learned .exit)) ⌝ }
+{
+    let book = desk::emptied(working, rows, learned);
+    let opened = pages::open(book, working, rows, learned, page_of(key_of(1, 1), 1));
+    opened.book
+}
+
 // White rows, one byte each.
-fn rows_line(name: &[u8], rows: u64) {
+fn rows_line(name: &[u8], count: u64) {
+    let mut working = [[0u8; CONTEXTS]; PAGES];
+    let mut rows = [[0u8; ROW]; PAGES];
+    let mut learned = [[0u8; CONTEXTS]; PLACES];
+    let book = new_page(&mut working, &mut rows, &mut learned);
     let pels = [0u8; 65];
     let mut out = [0u8; 64];
-    let band = store::front_of(&pels, rows as usize);
-    let wrote = write_band(new_page(), key_of(1, 1), rows, band, &mut out);
+    let ask = band_of(key_of(1, 1), count);
+    let band = store::front_of(&pels, count as usize);
+    let wrote = bands::write(
+        book,
+        &mut working,
+        &mut rows,
+        &mut learned,
+        ask,
+        band,
+        &mut out,
+    );
     line(name, wrote.answer);
+}
+
+// A desk on which classes 1 to n have each been opened; each is closed again where that is asked.
+fn with_classes<'a>(
+    working: &'a mut [[u8; CONTEXTS]; PAGES],
+    rows: &'a mut [[u8; ROW]; PAGES],
+    learned: &'a mut [[u8; CONTEXTS]; PLACES],
+    n: u64,
+    closed: bool,
+) -> Book
+    ensures { λ _. ⌜ Sized (now (working .exit)) (now (rows .exit)) (now (learned .exit)) ⌝ }
+{
+    let mut book = desk::emptied(working, rows, learned);
+    let mut i: u64 = 0;
+    while i < n {
+        i += 1;
+        let opened = pages::open(book, working, rows, learned, page_of(key_of(1, i), 1));
+        book = opened.book;
+        if closed {
+            let gone = pages::close(book, working, rows, learned, key_of(1, i));
+            book = gone.book;
+        }
+    }
+    book
 }
 
 // One class more than the n that the desk has seen.
 fn one_more(name: &[u8], n: u64, closed: bool) {
-    let d = with_classes(n, closed);
-    let opened = open_page(d, key_of(1, 100), 1);
+    let mut working = [[0u8; CONTEXTS]; PAGES];
+    let mut rows = [[0u8; ROW]; PAGES];
+    let mut learned = [[0u8; CONTEXTS]; PLACES];
+    let book = with_classes(&mut working, &mut rows, &mut learned, n, closed);
+    let ask = page_of(key_of(1, 100), 1);
+    let opened = pages::open(book, &mut working, &mut rows, &mut learned, ask);
     line(name, opened.answer);
 }
 
 // P1 into a buffer, which is then shown.
 fn buffer_line(name: &[u8], out: &mut [u8]) {
-    let wrote = write_band(new_page(), key_of(1, 1), 1, b"\x00", out);
+    let mut working = [[0u8; CONTEXTS]; PAGES];
+    let mut rows = [[0u8; ROW]; PAGES];
+    let mut learned = [[0u8; CONTEXTS]; PLACES];
+    let book = new_page(&mut working, &mut rows, &mut learned);
+    let ask = band_of(key_of(1, 1), 1);
+    let wrote = bands::write(
+        book,
+        &mut working,
+        &mut rows,
+        &mut learned,
+        ask,
+        b"\x00",
+        out,
+    );
     lines::put_text(name);
     lines::put_answer(wrote.answer);
     lines::put_text(b", buffer");
@@ -105,37 +159,106 @@ fn buffer_line(name: &[u8], out: &mut [u8]) {
     lines::put_text(b"\n");
 }
 
-// One band of one row, its code shown; the desk after it.
-fn code_line(name: &[u8], d: Desk, key: Key, pels: &[u8]) -> Desk {
+// One band of one row, its code shown; the book after it.
+fn code_line<'a, 'b, 'c>(
+    name: &'b [u8],
+    book: Book,
+    working: &'a mut [[u8; CONTEXTS]; PAGES],
+    rows: &'a mut [[u8; ROW]; PAGES],
+    learned: &'a mut [[u8; CONTEXTS]; PLACES],
+    key: Key,
+    pels: &'c [u8],
+) -> Book
+    requires { ⌜ Sized (now working) (now rows) (now learned) ⌝ }
+    ensures { λ _. ⌜ Sized (now (working .exit)) (now (rows .exit)) (now (learned .exit)) ⌝ }
+{
     let mut out = [0u8; 8];
-    let wrote = write_band(d, key, 1, pels, &mut out);
+    let wrote = bands::write(
+        book,
+        working,
+        rows,
+        learned,
+        band_of(key, 1),
+        pels,
+        &mut out,
+    );
     lines::put_text(name);
     lines::put_answer(wrote.answer);
     lines::put_text(b", code");
     lines::put_bytes(store::front_of(&out, wrote.answer.length as usize));
     lines::put_text(b"\n");
-    wrote.desk
+    wrote.book
 }
 
 // Two schools have a class of the same number; each page has its own table and last row.
 fn two_schools() {
+    let mut working = [[0u8; CONTEXTS]; PAGES];
+    let mut rows = [[0u8; ROW]; PAGES];
+    let mut learned = [[0u8; CONTEXTS]; PLACES];
     let one = key_of(1, 5);
     let two = key_of(2, 5);
-    let a = open_page(desk::empty_desk(), one, 1);
+    let book = desk::emptied(&mut working, &mut rows, &mut learned);
+    let a = pages::open(book, &mut working, &mut rows, &mut learned, page_of(one, 1));
     line(b"School 1, class 5 opened", a.answer);
-    let b = open_page(a.desk, two, 1);
+    let b = pages::open(
+        a.book,
+        &mut working,
+        &mut rows,
+        &mut learned,
+        page_of(two, 1),
+    );
     line(b"School 2, class 5 opened beside it", b.answer);
-    let c = code_line(b"P2 by school 1", b.desk, one, b"\x80");
-    let d = code_line(b"P1 by school 2", c, two, b"\x00");
-    let e = code_line(b"P9 by school 1", d, one, b"\x80");
-    code_line(b"P7 by school 2", e, two, b"\x00");
+    let c = code_line(
+        b"P2 by school 1",
+        b.book,
+        &mut working,
+        &mut rows,
+        &mut learned,
+        one,
+        b"\x80",
+    );
+    let d = code_line(
+        b"P1 by school 2",
+        c,
+        &mut working,
+        &mut rows,
+        &mut learned,
+        two,
+        b"\x00",
+    );
+    let e = code_line(
+        b"P9 by school 1",
+        d,
+        &mut working,
+        &mut rows,
+        &mut learned,
+        one,
+        b"\x80",
+    );
+    code_line(
+        b"P7 by school 2",
+        e,
+        &mut working,
+        &mut rows,
+        &mut learned,
+        two,
+        b"\x00",
+    );
 }
 
 // The page is closed, and its class's table looked at.
-fn look_line(name: &[u8], d: Desk) {
-    let mut out = [255u8; 128];
-    let closed = calls::close(d, key_of(1, 1));
-    let seen = calls::look(closed.desk, key_of(1, 1), &mut out);
+fn look_line<'a, 'b>(
+    name: &'b [u8],
+    book: Book,
+    working: &'a mut [[u8; CONTEXTS]; PAGES],
+    rows: &'a mut [[u8; ROW]; PAGES],
+    learned: &'a mut [[u8; CONTEXTS]; PLACES],
+)
+    requires { ⌜ Sized (now working) (now rows) (now learned) ⌝ }
+{
+    let mut out = [255u8; CONTEXTS];
+    let closed = pages::close(book, working, rows, learned, key_of(1, 1));
+    let seen = tables::look(closed.book, working, rows, learned, key_of(1, 1), &mut out);
     lines::put_text(name);
     lines::put_answer(seen.answer);
     put_contexts(&out);
@@ -143,13 +266,54 @@ fn look_line(name: &[u8], d: Desk) {
 }
 
 fn looks() {
-    let one = key_of(1, 1);
+    let mut working = [[0u8; CONTEXTS]; PAGES];
+    let mut rows = [[0u8; ROW]; PAGES];
+    let mut learned = [[0u8; CONTEXTS]; PLACES];
+    let one = band_of(key_of(1, 1), 1);
     let mut out = [0u8; 8];
-    let p1 = write_band(new_page(), one, 1, b"\x00", &mut out);
-    look_line(b"Look after P1 and close", p1.desk);
-    let p2 = write_band(new_page(), one, 1, b"\x80", &mut out);
-    let p9 = write_band(p2.desk, one, 1, b"\x80", &mut out);
-    look_line(b"Look after P2, P9 and close", p9.desk);
+    let a = new_page(&mut working, &mut rows, &mut learned);
+    let p1 = bands::write(
+        a,
+        &mut working,
+        &mut rows,
+        &mut learned,
+        one,
+        b"\x00",
+        &mut out,
+    );
+    look_line(
+        b"Look after P1 and close",
+        p1.book,
+        &mut working,
+        &mut rows,
+        &mut learned,
+    );
+    let b = new_page(&mut working, &mut rows, &mut learned);
+    let p2 = bands::write(
+        b,
+        &mut working,
+        &mut rows,
+        &mut learned,
+        one,
+        b"\x80",
+        &mut out,
+    );
+    let p9 = bands::write(
+        p2.book,
+        &mut working,
+        &mut rows,
+        &mut learned,
+        one,
+        b"\x80",
+        &mut out,
+    );
+    look_line(
+        b"Look after P2, P9 and close",
+        p9.book,
+        &mut working,
+        &mut rows,
+        &mut learned,
+    );
 }
 
 fn main() {

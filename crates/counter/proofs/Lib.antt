@@ -1,5 +1,5 @@
-pub mod Carried
+pub mod Apart
 pub mod Two
 pub mod Three
 pub mod TwoOut
-pub mod ThreeIo
+pub mod ThreeInOut

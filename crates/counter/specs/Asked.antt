@@ -1,8 +1,5 @@
--- What the numbers of an outer call ask, and what it came to, as the records of the calls by value. Assumes nothing.
+-- What the numbers of an outer call ask, as the records of the calls over the desk's parts. Assumes nothing.
 use Prim.Native.Nat.{ℕ}
-use Rattle.desk.specs.declared.Answer.{Answer}
-use Rattle.desk.specs.declared.Desk.{Desk}
-use Rattle.desk.specs.declared.Outcome.{Outcome}
 use Rattle.desk.specs.declared.Key.{Key}
 use Rattle.desk.specs.declared.Opening.{Opening}
 use Rattle.desk.specs.declared.Ask.{Ask}
@@ -19,7 +16,3 @@ toRead school class width = record { key = asKey school class; direction = Read;
 
 abbrev pub askOf : ℕ → ℕ → ℕ → Ask
 askOf school class rows = record { key = asKey school class; rows = rows }
-
--- what a call over the lent desk came to: its answer, and the desk that it left
-abbrev pub outcomeOf : Answer → Desk → Outcome
-outcomeOf answer after = record { answer = answer; desk = after }

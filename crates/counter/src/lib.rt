@@ -1,51 +1,95 @@
-// The desk lent for one call: out, the call by value, back. Other languages see these calls and no others.
+// The calls over a lent desk. Other languages see these calls and no others.
 ghost use mathlib.Core.Path.{_≡_};
-ghost use Rattle.desk.specs.Places.{emptyDesk};
 ghost use mathlib.Core.List.{[]};
+ghost use Rattle.desk.specs.Places.{emptyDesk};
+ghost use Rattle.desk.specs.Parts.{deskOf, partsOf, Sized, Whole};
 ghost use Rattle.desk.specs.Calls.{opens, writes, reads, closes, abandons, drops, looks};
-ghost use Rattle.desk.specs.Allowed.{Allowed};
-ghost use Rattle.counter.specs.Asked.{asKey, toWrite, toRead, askOf, outcomeOf};
+ghost use Rattle.desk.specs.Replies.{Serves};
+ghost use Rattle.counter.specs.Asked.{asKey, toWrite, toRead, askOf};
+ghost use Rattle.counter.specs.Layout.{deskBytes};
 use desk::Answer;
 use desk::Ask;
-use desk::Desk;
+use desk::Book;
 use desk::Direction;
 use desk::Key;
 use desk::Opening;
-use desk::Outcome;
+use desk::Parts;
+use desk::Reply;
+use limits::CONTEXTS;
+use limits::PAGES;
+use limits::PLACES;
+use limits::ROW;
 
-// ---- the calls by value, with numbers for what is asked: other languages hand over no records
-fn closed(d: Desk, school: u64, class: u64) -> Outcome
-    ensures { λ r. ⌜ Allowed d (closes (asKey school class)) r [] ⌝ }
+// ---- the calls over the desk's parts, with numbers for what is asked: other languages hand over no records
+fn closed<'a>(
+    book: Book,
+    working: &'a mut [[u8; CONTEXTS]; PAGES],
+    rows: &'a mut [[u8; ROW]; PAGES],
+    learned: &'a mut [[u8; CONTEXTS]; PLACES],
+    school: u64,
+    class: u64,
+) -> Reply
+    requires { ⌜ Sized (now working) (now rows) (now learned) ⌝ }
+    ensures { λ r. ⌜ Serves (partsOf book (now (working .entry)) (now (rows .entry)) (now (learned .entry))) (closes (asKey school class)) (r .answer)
+        (partsOf (r .book) (now (working .exit)) (now (rows .exit)) (now (learned .exit))) [] ⌝ }
 {
     let key = Key {
         school: school,
         class: class,
     };
-    calls::close(d, key)
+    pages::close(book, working, rows, learned, key)
 }
 
-fn abandoned(d: Desk, school: u64, class: u64) -> Outcome
-    ensures { λ r. ⌜ Allowed d (abandons (asKey school class)) r [] ⌝ }
+fn abandoned<'a>(
+    book: Book,
+    working: &'a mut [[u8; CONTEXTS]; PAGES],
+    rows: &'a mut [[u8; ROW]; PAGES],
+    learned: &'a mut [[u8; CONTEXTS]; PLACES],
+    school: u64,
+    class: u64,
+) -> Reply
+    requires { ⌜ Sized (now working) (now rows) (now learned) ⌝ }
+    ensures { λ r. ⌜ Serves (partsOf book (now (working .entry)) (now (rows .entry)) (now (learned .entry))) (abandons (asKey school class))
+        (r .answer) (partsOf (r .book) (now (working .exit)) (now (rows .exit)) (now (learned .exit))) [] ⌝ }
 {
     let key = Key {
         school: school,
         class: class,
     };
-    calls::abandon(d, key)
+    pages::abandon(book, working, rows, learned, key)
 }
 
-fn forgotten(d: Desk, school: u64, class: u64) -> Outcome
-    ensures { λ r. ⌜ Allowed d (drops (asKey school class)) r [] ⌝ }
+fn forgotten<'a>(
+    book: Book,
+    working: &'a mut [[u8; CONTEXTS]; PAGES],
+    rows: &'a mut [[u8; ROW]; PAGES],
+    learned: &'a mut [[u8; CONTEXTS]; PLACES],
+    school: u64,
+    class: u64,
+) -> Reply
+    requires { ⌜ Sized (now working) (now rows) (now learned) ⌝ }
+    ensures { λ r. ⌜ Serves (partsOf book (now (working .entry)) (now (rows .entry)) (now (learned .entry))) (drops (asKey school class)) (r .answer)
+        (partsOf (r .book) (now (working .exit)) (now (rows .exit)) (now (learned .exit))) [] ⌝ }
 {
     let key = Key {
         school: school,
         class: class,
     };
-    calls::forget(d, key)
+    tables::forget(book, working, rows, learned, key)
 }
 
-fn opened_to_write(d: Desk, school: u64, class: u64, width: u64) -> Outcome
-    ensures { λ r. ⌜ Allowed d (opens (toWrite school class width)) r [] ⌝ }
+fn opened_to_write<'a>(
+    book: Book,
+    working: &'a mut [[u8; CONTEXTS]; PAGES],
+    rows: &'a mut [[u8; ROW]; PAGES],
+    learned: &'a mut [[u8; CONTEXTS]; PLACES],
+    school: u64,
+    class: u64,
+    width: u64,
+) -> Reply
+    requires { ⌜ Sized (now working) (now rows) (now learned) ⌝ }
+    ensures { λ r. ⌜ Serves (partsOf book (now (working .entry)) (now (rows .entry)) (now (learned .entry))) (opens (toWrite school class width))
+        (r .answer) (partsOf (r .book) (now (working .exit)) (now (rows .exit)) (now (learned .exit))) [] ⌝ }
 {
     let ask = Opening {
         key: Key {
@@ -55,11 +99,21 @@ fn opened_to_write(d: Desk, school: u64, class: u64, width: u64) -> Outcome
         direction: Direction::Write,
         width: width,
     };
-    calls::open(d, ask)
+    pages::open(book, working, rows, learned, ask)
 }
 
-fn opened_to_read(d: Desk, school: u64, class: u64, width: u64) -> Outcome
-    ensures { λ r. ⌜ Allowed d (opens (toRead school class width)) r [] ⌝ }
+fn opened_to_read<'a>(
+    book: Book,
+    working: &'a mut [[u8; CONTEXTS]; PAGES],
+    rows: &'a mut [[u8; ROW]; PAGES],
+    learned: &'a mut [[u8; CONTEXTS]; PLACES],
+    school: u64,
+    class: u64,
+    width: u64,
+) -> Reply
+    requires { ⌜ Sized (now working) (now rows) (now learned) ⌝ }
+    ensures { λ r. ⌜ Serves (partsOf book (now (working .entry)) (now (rows .entry)) (now (learned .entry))) (opens (toRead school class width))
+        (r .answer) (partsOf (r .book) (now (working .exit)) (now (rows .exit)) (now (learned .exit))) [] ⌝ }
 {
     let ask = Opening {
         key: Key {
@@ -69,166 +123,277 @@ fn opened_to_read(d: Desk, school: u64, class: u64, width: u64) -> Outcome
         direction: Direction::Read,
         width: width,
     };
-    calls::open(d, ask)
+    pages::open(book, working, rows, learned, ask)
 }
 
-fn looked(d: Desk, school: u64, class: u64, out: &mut [u8]) -> Outcome
-    ensures { λ r. ⌜ Allowed d (looks (asKey school class) (now (out .entry))) r (now (out .exit)) ⌝ }
+fn looked<'a, 'b>(
+    book: Book,
+    working: &'a mut [[u8; CONTEXTS]; PAGES],
+    rows: &'a mut [[u8; ROW]; PAGES],
+    learned: &'a mut [[u8; CONTEXTS]; PLACES],
+    school: u64,
+    class: u64,
+    out: &'b mut [u8],
+) -> Reply
+    requires { ⌜ Sized (now working) (now rows) (now learned) ⌝ }
+    ensures { λ r. ⌜ Serves (partsOf book (now (working .entry)) (now (rows .entry)) (now (learned .entry))) (looks (asKey school class)
+        (now (out .entry))) (r .answer) (partsOf (r .book) (now (working .exit)) (now (rows .exit)) (now (learned .exit))) (now (out .exit)) ⌝ }
 {
     let key = Key {
         school: school,
         class: class,
     };
-    calls::look(d, key, out)
+    tables::look(book, working, rows, learned, key, out)
 }
 
-fn written(d: Desk, school: u64, class: u64, rows: u64, pels: &[u8], out: &mut [u8]) -> Outcome
-    ensures { λ r. ⌜ Allowed d (writes (askOf school class rows) (now (pels .entry)) (now (out .entry))) r (now (out .exit)) ⌝ }
+fn written<'a, 'b, 'c>(
+    book: Book,
+    working: &'a mut [[u8; CONTEXTS]; PAGES],
+    rows: &'a mut [[u8; ROW]; PAGES],
+    learned: &'a mut [[u8; CONTEXTS]; PLACES],
+    school: u64,
+    class: u64,
+    count: u64,
+    pels: &'b [u8],
+    out: &'c mut [u8],
+) -> Reply
+    requires { ⌜ Sized (now working) (now rows) (now learned) ⌝ }
+    ensures { λ r. ⌜ Serves (partsOf book (now (working .entry)) (now (rows .entry)) (now (learned .entry)))
+        (writes (askOf school class count) (now (pels .entry)) (now (out .entry))) (r .answer)
+        (partsOf (r .book) (now (working .exit)) (now (rows .exit)) (now (learned .exit))) (now (out .exit)) ⌝ }
 {
     let ask = Ask {
         key: Key {
             school: school,
             class: class,
         },
-        rows: rows,
+        rows: count,
     };
-    bands::write(d, ask, pels, out)
+    bands::write(book, working, rows, learned, ask, pels, out)
 }
 
-fn read(d: Desk, school: u64, class: u64, rows: u64, code: &[u8], out: &mut [u8]) -> Outcome
-    ensures { λ r. ⌜ Allowed d (reads (askOf school class rows) (now (code .entry)) (now (out .entry))) r (now (out .exit)) ⌝ }
+fn read<'a, 'b, 'c>(
+    book: Book,
+    working: &'a mut [[u8; CONTEXTS]; PAGES],
+    rows: &'a mut [[u8; ROW]; PAGES],
+    learned: &'a mut [[u8; CONTEXTS]; PLACES],
+    school: u64,
+    class: u64,
+    count: u64,
+    code: &'b [u8],
+    out: &'c mut [u8],
+) -> Reply
+    requires { ⌜ Sized (now working) (now rows) (now learned) ⌝ }
+    ensures { λ r. ⌜ Serves (partsOf book (now (working .entry)) (now (rows .entry)) (now (learned .entry)))
+        (reads (askOf school class count) (now (code .entry)) (now (out .entry))) (r .answer)
+        (partsOf (r .book) (now (working .exit)) (now (rows .exit)) (now (learned .exit))) (now (out .exit)) ⌝ }
 {
     let ask = Ask {
         key: Key {
             school: school,
             class: class,
         },
-        rows: rows,
+        rows: count,
     };
-    bands::read(d, ask, code, out)
+    bands::read(book, working, rows, learned, ask, code, out)
 }
 
-// An empty desk.
-fn emptied() -> Desk
-    ensures { λ r. ⌜ r ≡ emptyDesk ⌝ }
+// An empty desk, cleared in place.
+fn emptied<'a>(
+    working: &'a mut [[u8; CONTEXTS]; PAGES],
+    rows: &'a mut [[u8; ROW]; PAGES],
+    learned: &'a mut [[u8; CONTEXTS]; PLACES],
+) -> Book
+    requires { ⌜ Sized (now working) (now rows) (now learned) ⌝ }
+    ensures { λ r. ⌜ (deskOf (partsOf r (now (working .exit)) (now (rows .exit)) (now (learned .exit))) ≡ emptyDesk) × Whole (partsOf
+        r (now (working .exit)) (now (rows .exit)) (now (learned .exit))) ⌝ }
 {
-    desk::empty_desk()
+    desk::emptied(working, rows, learned)
 }
 
-// ---- the calls over the lent desk
-// The bytes of a desk: four pages of 416 and eight places of 152.
+// ---- the calls over the lent desk: its book goes out and back by value, its arrays are lent in place
+// The bytes of a desk: a page has a line of 32, a table and a row; a place has a line of 24 and a table.
+const DESK_BYTES: usize = PAGES * (32 + CONTEXTS + ROW) + PLACES * (24 + CONTEXTS);
+
 #[no_mangle]
 pub extern "C" fn siftpebble_desk_bytes() -> usize
-    ensures { λ r. ⌜ r ≡ 2880 ⌝ }
+    ensures { λ r. ⌜ r ≡ deskBytes ⌝ }
 {
-    2880
+    DESK_BYTES
 }
 
 #[no_mangle]
-pub extern "C" fn siftpebble_empty(desk: &mut Desk)
-    ensures { λ _. ⌜ now (desk .exit) ≡ emptyDesk ⌝ }
+pub extern "C" fn siftpebble_empty(desk: &mut Parts)
+    ensures { λ _. ⌜ (deskOf (now (desk .exit)) ≡ emptyDesk) × Whole (now (desk .exit)) ⌝ }
 {
-    let d = emptied();
-    *desk = d;
-}
-
-#[no_mangle]
-pub extern "C" fn siftpebble_close(desk: &mut Desk, school: u64, class: u64) -> Answer
-    ensures { λ r. ⌜ Allowed (now (desk .entry)) (closes (asKey school class)) (outcomeOf r (now (desk .exit))) [] ⌝ }
-{
-    let r = closed(*desk, school, class);
-    *desk = r.desk;
-    r.answer
-}
-
-#[no_mangle]
-pub extern "C" fn siftpebble_abandon(desk: &mut Desk, school: u64, class: u64) -> Answer
-    ensures { λ r. ⌜ Allowed (now (desk .entry)) (abandons (asKey school class)) (outcomeOf r (now (desk .exit))) [] ⌝ }
-{
-    let r = abandoned(*desk, school, class);
-    *desk = r.desk;
-    r.answer
-}
-
-#[no_mangle]
-pub extern "C" fn siftpebble_drop(desk: &mut Desk, school: u64, class: u64) -> Answer
-    ensures { λ r. ⌜ Allowed (now (desk .entry)) (drops (asKey school class)) (outcomeOf r (now (desk .exit))) [] ⌝ }
-{
-    let r = forgotten(*desk, school, class);
-    *desk = r.desk;
-    r.answer
+    let book = emptied(&mut desk.working, &mut desk.rows, &mut desk.learned);
+    desk.book = book;
 }
 
 #[no_mangle]
 pub extern "C" fn siftpebble_open_write(
-    desk: &mut Desk,
+    desk: &mut Parts,
     school: u64,
     class: u64,
     width: u64,
 ) -> Answer
-    ensures { λ r. ⌜ Allowed (now (desk .entry)) (opens (toWrite school class width)) (outcomeOf r (now (desk .exit))) [] ⌝ }
+    ensures { λ r. ⌜ Serves (now (desk .entry)) (opens (toWrite school class width)) r (now (desk .exit)) [] ⌝ }
 {
-    let r = opened_to_write(*desk, school, class, width);
-    *desk = r.desk;
+    let r = opened_to_write(
+        desk.book,
+        &mut desk.working,
+        &mut desk.rows,
+        &mut desk.learned,
+        school,
+        class,
+        width,
+    );
+    desk.book = r.book;
     r.answer
 }
 
 #[no_mangle]
 pub extern "C" fn siftpebble_open_read(
-    desk: &mut Desk,
+    desk: &mut Parts,
     school: u64,
     class: u64,
     width: u64,
 ) -> Answer
-    ensures { λ r. ⌜ Allowed (now (desk .entry)) (opens (toRead school class width)) (outcomeOf r (now (desk .exit))) [] ⌝ }
+    ensures { λ r. ⌜ Serves (now (desk .entry)) (opens (toRead school class width)) r (now (desk .exit)) [] ⌝ }
 {
-    let r = opened_to_read(*desk, school, class, width);
-    *desk = r.desk;
+    let r = opened_to_read(
+        desk.book,
+        &mut desk.working,
+        &mut desk.rows,
+        &mut desk.learned,
+        school,
+        class,
+        width,
+    );
+    desk.book = r.book;
+    r.answer
+}
+
+#[no_mangle]
+pub extern "C" fn siftpebble_close(desk: &mut Parts, school: u64, class: u64) -> Answer
+    ensures { λ r. ⌜ Serves (now (desk .entry)) (closes (asKey school class)) r (now (desk .exit)) [] ⌝ }
+{
+    let r = closed(
+        desk.book,
+        &mut desk.working,
+        &mut desk.rows,
+        &mut desk.learned,
+        school,
+        class,
+    );
+    desk.book = r.book;
+    r.answer
+}
+
+#[no_mangle]
+pub extern "C" fn siftpebble_abandon(desk: &mut Parts, school: u64, class: u64) -> Answer
+    ensures { λ r. ⌜ Serves (now (desk .entry)) (abandons (asKey school class)) r (now (desk .exit)) [] ⌝ }
+{
+    let r = abandoned(
+        desk.book,
+        &mut desk.working,
+        &mut desk.rows,
+        &mut desk.learned,
+        school,
+        class,
+    );
+    desk.book = r.book;
+    r.answer
+}
+
+#[no_mangle]
+pub extern "C" fn siftpebble_drop(desk: &mut Parts, school: u64, class: u64) -> Answer
+    ensures { λ r. ⌜ Serves (now (desk .entry)) (drops (asKey school class)) r (now (desk .exit)) [] ⌝ }
+{
+    let r = forgotten(
+        desk.book,
+        &mut desk.working,
+        &mut desk.rows,
+        &mut desk.learned,
+        school,
+        class,
+    );
+    desk.book = r.book;
     r.answer
 }
 
 #[no_mangle]
 pub extern "C" fn siftpebble_look(
-    desk: &mut Desk,
+    desk: &mut Parts,
     school: u64,
     class: u64,
     out: &mut [u8],
 ) -> Answer
-    ensures { λ r. ⌜ Allowed (now (desk .entry)) (looks (asKey school class) (now (out .entry))) (outcomeOf r (now (desk .exit))) (now (out .exit)) ⌝ }
+    ensures { λ r. ⌜ Serves (now (desk .entry)) (looks (asKey school class) (now (out .entry))) r (now (desk .exit)) (now (out .exit)) ⌝ }
 {
-    let r = looked(*desk, school, class, out);
-    *desk = r.desk;
+    let r = looked(
+        desk.book,
+        &mut desk.working,
+        &mut desk.rows,
+        &mut desk.learned,
+        school,
+        class,
+        out,
+    );
+    desk.book = r.book;
     r.answer
 }
 
 #[no_mangle]
 pub extern "C" fn siftpebble_write(
-    desk: &mut Desk,
+    desk: &mut Parts,
     school: u64,
     class: u64,
     rows: u64,
     pels: &[u8],
     out: &mut [u8],
 ) -> Answer
-    ensures { λ r. ⌜ Allowed (now (desk .entry)) (writes (askOf school class rows) (now (pels .entry)) (now (out .entry))) (outcomeOf r (now (desk .exit))) (now (out .exit)) ⌝ }
+    ensures { λ r. ⌜ Serves (now (desk .entry)) (writes (askOf school class rows) (now (pels .entry)) (now (out .entry))) r (now (desk .exit))
+        (now (out .exit)) ⌝ }
 {
-    let r = written(*desk, school, class, rows, pels, out);
-    *desk = r.desk;
+    let r = written(
+        desk.book,
+        &mut desk.working,
+        &mut desk.rows,
+        &mut desk.learned,
+        school,
+        class,
+        rows,
+        pels,
+        out,
+    );
+    desk.book = r.book;
     r.answer
 }
 
 #[no_mangle]
 pub extern "C" fn siftpebble_read(
-    desk: &mut Desk,
+    desk: &mut Parts,
     school: u64,
     class: u64,
     rows: u64,
     code: &[u8],
     out: &mut [u8],
 ) -> Answer
-    ensures { λ r. ⌜ Allowed (now (desk .entry)) (reads (askOf school class rows) (now (code .entry)) (now (out .entry))) (outcomeOf r (now (desk .exit))) (now (out .exit)) ⌝ }
+    ensures { λ r. ⌜ Serves (now (desk .entry)) (reads (askOf school class rows) (now (code .entry)) (now (out .entry))) r (now (desk .exit))
+        (now (out .exit)) ⌝ }
 {
-    let r = read(*desk, school, class, rows, code, out);
-    *desk = r.desk;
+    let r = read(
+        desk.book,
+        &mut desk.working,
+        &mut desk.rows,
+        &mut desk.learned,
+        school,
+        class,
+        rows,
+        code,
+        out,
+    );
+    desk.book = r.book;
     r.answer
 }

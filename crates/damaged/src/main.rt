@@ -1,9 +1,14 @@
 // Codes read as one row of width 1 on a new page: two are codes of a band, every other is damaged.
+ghost use Rattle.desk.specs.Parts.{Sized};
 use desk::Ask;
-use desk::Desk;
+use desk::Book;
 use desk::Direction;
 use desk::Key;
 use desk::Opening;
+use limits::CONTEXTS;
+use limits::PAGES;
+use limits::PLACES;
+use limits::ROW;
 
 fn the_key() -> Key {
     Key {
@@ -12,38 +17,58 @@ fn the_key() -> Key {
     }
 }
 
-// A page of width 1, open to read on an empty desk.
-fn new_page() -> Desk {
-    let d = desk::empty_desk();
+// An empty desk with a page of width 1, open to read.
+fn new_page<'a>(
+    working: &'a mut [[u8; CONTEXTS]; PAGES],
+    rows: &'a mut [[u8; ROW]; PAGES],
+    learned: &'a mut [[u8; CONTEXTS]; PLACES],
+) -> Book
+    ensures { λ _. ⌜ Sized (now (working .exit)) (now (rows .exit)) (now (learned .exit)) ⌝ }
+{
+    let book = desk::emptied(working, rows, learned);
     let ask = Opening {
         key: the_key(),
         direction: Direction::Read,
         width: 1,
     };
-    let opened = calls::open(d, ask);
-    opened.desk
+    let opened = pages::open(book, working, rows, learned, ask);
+    opened.book
 }
 
 // The line of one code: its name and bytes, the answer's number, length and S, and the buffer of two bytes after it.
-fn line(name: &[u8], d: Desk, code: &[u8]) -> Desk {
+fn line<'a, 'b, 'c>(
+    name: &'b [u8],
+    book: Book,
+    working: &'a mut [[u8; CONTEXTS]; PAGES],
+    rows: &'a mut [[u8; ROW]; PAGES],
+    learned: &'a mut [[u8; CONTEXTS]; PLACES],
+    code: &'c [u8],
+) -> Book
+    requires { ⌜ Sized (now working) (now rows) (now learned) ⌝ }
+    ensures { λ _. ⌜ Sized (now (working .exit)) (now (rows .exit)) (now (learned .exit)) ⌝ }
+{
     let mut out = [255u8; 2];
     let ask = Ask {
         key: the_key(),
         rows: 1,
     };
-    let read = bands::read(d, ask, code, &mut out);
+    let read = bands::read(book, working, rows, learned, ask, code, &mut out);
     lines::put_text(name);
     lines::put_bytes(code);
     lines::put_answer(read.answer);
     lines::put_text(b", buffer");
     lines::put_bytes(&out);
     lines::put_text(b"\n");
-    read.desk
+    read.book
 }
 
 // A code on a new page.
 fn first(name: &[u8], code: &[u8]) {
-    line(name, new_page(), code);
+    let mut working = [[0u8; CONTEXTS]; PAGES];
+    let mut rows = [[0u8; ROW]; PAGES];
+    let mut learned = [[0u8; CONTEXTS]; PLACES];
+    let book = new_page(&mut working, &mut rows, &mut learned);
+    line(name, book, &mut working, &mut rows, &mut learned, code);
 }
 
 // P1's code with one bit flipped, at each of its 16 positions.
@@ -62,8 +87,26 @@ fn flips() {
 
 // After a damaged band the page stays open, and the band may be sent again.
 fn sent_again() {
-    let d = line(b"Damaged on its way,", new_page(), b"\xAC\x11");
-    line(b"Sent again,", d, b"\xAC\x10");
+    let mut working = [[0u8; CONTEXTS]; PAGES];
+    let mut rows = [[0u8; ROW]; PAGES];
+    let mut learned = [[0u8; CONTEXTS]; PLACES];
+    let a = new_page(&mut working, &mut rows, &mut learned);
+    let b = line(
+        b"Damaged on its way,",
+        a,
+        &mut working,
+        &mut rows,
+        &mut learned,
+        b"\xAC\x11",
+    );
+    line(
+        b"Sent again,",
+        b,
+        &mut working,
+        &mut rows,
+        &mut learned,
+        b"\xAC\x10",
+    );
 }
 
 fn main() {

@@ -14,9 +14,7 @@ use Rattle.ground.specs.Options.{given, none-given}
 use Rattle.band.specs.Band.{Right}
 use Rattle.reader.specs.Reading.{readBack, right-found}
 use Rattle.desk.specs.declared.Ask.{Ask}
-use Rattle.desk.specs.declared.Page.{Page}
-use Rattle.desk.specs.declared.Desk.{Desk}
-use Rattle.desk.specs.declared.Outcome.{Outcome}
+use Rattle.desk.specs.Desk.{Page, Desk, Outcome}
 use Rattle.desk.specs.Refusals.{Row, row, refusal}
 use Rattle.desk.specs.Calls.{reads}
 use Rattle.desk.specs.Standing.{pageOf, stand}

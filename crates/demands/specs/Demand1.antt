@@ -11,8 +11,7 @@ use lib.ListN.{getD, length, replicate, length-replicate}
 use borrow.Author.Tests.{ne-eqb}
 use Rattle.ground.specs.Bools.{no-way, both}
 use Rattle.store.specs.Store.{cleared}
-use Rattle.desk.specs.declared.Desk.{Desk}
-use Rattle.desk.specs.declared.Outcome.{Outcome}
+use Rattle.desk.specs.Desk.{Desk, Outcome}
 use Rattle.desk.specs.Refusals.{Row, refusal, order, from, inOrder, lentAfter}
 use Rattle.desk.specs.Calls.{Call, keyOf, lentTo}
 use Rattle.desk.specs.Standing.{stand}

@@ -13,13 +13,12 @@ use Rattle.ground.specs.Bools.{both, not-true}
 use Rattle.ground.specs.Options.{orElse}
 use Rattle.store.specs.Store.{inFront, front}
 use Rattle.template.specs.Pels.{rowBytes, bandPadded}
-use Rattle.band.specs.Band.{maxRows, maxCode, Written, written, hasRoom, Finder}
+use Rattle.limits.specs.Limits.{maxRows, maxCode}
+use Rattle.band.specs.Band.{Written, hasRoom, Finder}
 use Rattle.reader.specs.Reading.{right-found, one-reader}
 use Rattle.desk.specs.declared.Key.{Key}
 use Rattle.desk.specs.declared.Ask.{Ask}
-use Rattle.desk.specs.declared.Page.{Page}
-use Rattle.desk.specs.declared.Desk.{Desk}
-use Rattle.desk.specs.declared.Outcome.{Outcome}
+use Rattle.desk.specs.Desk.{Page, Desk, Outcome}
 use Rattle.desk.specs.Places.{noPage}
 use Rattle.desk.specs.Lawful.{within, lawfulKey, lawful}
 use Rattle.desk.specs.Refusals.{refusal}
@@ -27,7 +26,7 @@ use Rattle.desk.specs.Calls.{writes, reads}
 use Rattle.desk.specs.Standing.{Stand, pageOf, openPage, stand}
 use Rattle.desk.specs.Tests.{bandOf, foundIn, tests}
 use Rattle.desk.specs.Effects.{afterwards, Effect, servedPage, serves, effect}
-use Rattle.desk.specs.Allowed.{number, effectOn, outcome, lent, Allowed}
+use Rattle.desk.specs.Allowed.{number, effectOn, Allowed}
 use Rattle.desk.specs.Kinds.{seeing}
 use Rattle.desk.specs.Passed.{passed, passed-after}
 use Rattle.kept.specs.Sound.{lawful-sound}
@@ -141,11 +140,11 @@ module _ (d : Desk) (ask : Ask) (pels out : List ℕ) (r : Outcome) (after : Lis
     by-page h = ap (λ (o : Option Page). h (seeing o (stand e (ask′ .key)))) g
 
     -- the key of an open page is lawful
-    known : lawfulKey (ask′ .key .school) (ask′ .key .class) ≡ true
+    known : lawfulKey (ask′ .key) ≡ true
     unfolding stand
     known =
         let o = owned e (lawful-sound e law) (ask′ .key) .page q g in
-        subst (λ (k : Key). lawfulKey (k .school) (k .class) ≡ true) (o .1) (o .0 .key)
+        subst (λ (k : Key). lawfulKey k ≡ true) (o .1) (o .0 .key)
 
     number-zero : number G e (reads ask′ code out′) ≡ 0
     unfolding number tests refusal stand

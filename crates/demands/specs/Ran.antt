@@ -6,8 +6,7 @@ use Rattle.turns.specs.Service.{Entry, calls}
 use Rattle.turns.specs.Serial.{serial}
 use Rattle.reader.specs.Reading.{reading}
 use Rattle.desk.specs.declared.Key.{Key}
-use Rattle.desk.specs.declared.Desk.{Desk}
-use Rattle.desk.specs.declared.Outcome.{Outcome}
+use Rattle.desk.specs.Desk.{Desk, Outcome}
 use Rattle.desk.specs.Places.{emptyDesk}
 use Rattle.desk.specs.Calls.{Call}
 use Rattle.desk.specs.Standing.{learnedTable}

@@ -19,7 +19,7 @@ use Rattle.band.specs.Band.{written, lastRow, white, hasRoom}
 use Rattle.reader.specs.Search.{firstOf, before, values, search}
 use Rattle.reader.specs.Reading.{sameBytes, writtenSo, readBack, reading}
 use Rattle.desk.specs.declared.Key.{Key}
-use Rattle.desk.specs.declared.Desk.{Desk}
+use Rattle.desk.specs.Desk.{Desk}
 use Rattle.desk.specs.declared.Direction.{Direction}
 use Rattle.desk.specs.declared.Direction.the-variants as way
 use Rattle.desk.specs.Places.{zeroTable, unusedPage, freePlace, emptyDesk, findBy}

@@ -3,8 +3,8 @@ use mathlib.Core.Path.{_≡_}
 use Prim.Native.Nat.{ℕ, zero, suc}
 use mathlib.Core.List.{List}
 use Rattle.band.specs.Band.{Finder, Reader}
-use Rattle.desk.specs.declared.Desk.{Desk}
-use Rattle.desk.specs.declared.Outcome.{Outcome}
+use Rattle.desk.specs.declared.Answer.{Answer}
+use Rattle.desk.specs.Desk.{Desk, Outcome}
 use Rattle.desk.specs.Refusals.{refusal, lentAfter}
 use Rattle.desk.specs.Calls.{Call, keyOf, lentTo}
 use Rattle.desk.specs.Standing.{stand}
@@ -13,11 +13,17 @@ use Rattle.desk.specs.Effects.{Effect, effect}
 use Rattle.desk.specs.Changes.{changed}
 
 -- A refusal answers its number, length 0 and S = 0, and changes nothing in the desk. An accepted call answers 0 as its number.
+abbrev pub refusedAs : ℕ → Answer
+refusedAs n = record { number = n; length = 0; shifts = 0 }
+
+abbrev pub doneAs : ℕ → ℕ → Answer
+doneAs len s = record { number = 0; length = len; shifts = s }
+
 abbrev pub refused : ℕ → Desk → Outcome
-refused n d = record { answer = record { number = n; length = 0; shifts = 0 }; desk = d }
+refused n d = record { answer = refusedAs n; desk = d }
 
 abbrev pub done : ℕ → ℕ → Desk → Outcome
-done len s d = record { answer = record { number = 0; length = len; shifts = s }; desk = d }
+done len s d = record { answer = doneAs len s; desk = d }
 
 -- refused by its number, or, where that is 0, done
 abbrev pub unless : ℕ → Desk → Outcome → Outcome

@@ -4,19 +4,17 @@ use mathlib.Core.List.{List}
 use lib.ListN.{set}
 use Rattle.estimate.specs.declared.Table.{Table}
 use Rattle.desk.specs.declared.Key.{Key}
-use Rattle.desk.specs.declared.Page.{Page}
-use Rattle.desk.specs.declared.Place.{Place}
-use Rattle.desk.specs.declared.Desk.{Desk}
+use Rattle.desk.specs.Desk.{Page, Place, Desk}
 use Rattle.desk.specs.declared.Found.{Found}
 use Rattle.desk.specs.declared.Found.the-variants.{At, Nothing}
 use Rattle.desk.specs.Places.{zeroTable, unusedPage, freePlace, pageFound, placeFound, tableFound, freePageFound, freePlaceFound, isFound}
 use Rattle.desk.specs.Effects.{Change, stays, gone, becomes}
 
 unfoldable pub learnedPlace : Key → Table → Place
-learnedPlace k t = record { state = 2; school = k .school; class = k .class; table = t }
+learnedPlace k t = record { state = 2; key = k; table = t }
 
 unfoldable pub reservedPlace : Key → Place
-reservedPlace k = record { state = 1; school = k .school; class = k .class; table = zeroTable }
+reservedPlace k = record { state = 1; key = k; table = zeroTable }
 
 -- a in the place that was found
 abbrev pub setAt : {A : Type 0} → Found → A → List A → List A

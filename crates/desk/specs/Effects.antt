@@ -4,12 +4,13 @@ use mathlib.Core.List.{List, []}
 use mathlib.Core.Option.{Option, some, none}
 use lib.ListN.{length}
 use Rattle.ground.specs.Options.{orElse}
+use Rattle.limits.specs.Limits.{contexts}
 use Rattle.estimate.specs.declared.Table.{Table}
 use Rattle.estimate.specs.Estimate.{fresh}
 use Rattle.store.specs.Store.{inFront}
 use Rattle.band.specs.Band.{white, Written, Finder}
 use Rattle.desk.specs.declared.Opening.{Opening}
-use Rattle.desk.specs.declared.Page.{Page}
+use Rattle.desk.specs.Desk.{Page}
 use Rattle.desk.specs.Places.{stateFor, noTable}
 use Rattle.desk.specs.Calls.{Call, opens, writes, reads, closes, abandons, drops, looks}
 use Rattle.desk.specs.Standing.{Stand, pageOf}
@@ -44,12 +45,12 @@ freshTable = record { entries = fresh }
 -- a new page: its working table; last row white
 unfoldable pub newPage : Opening → Table → Page
 newPage ask t =
-    record { state = stateFor (ask .direction); school = ask .key .school; class = ask .key .class; width = ask .width; table = t; last = white }
+    record { state = stateFor (ask .direction); key = ask .key; width = ask .width; table = t; last = white }
 
 -- the page after a band: its table and last row
 unfoldable pub servedPage : Page → Written → Page
 servedPage p w =
-    record { state = p .state; school = p .school; class = p .class; width = p .width; table = record { entries = w .table }; last = w .last }
+    record { state = p .state; key = p .key; width = p .width; table = record { entries = w .table }; last = w .last }
 
 -- a band: bytes in the front of the buffer, the rest kept; S; the page goes on
 abbrev pub serves : Page → Written → List ℕ → List ℕ → Effect
@@ -78,4 +79,4 @@ module _ (finds : Finder) where
   effect (drops k) s = does stays gone
   -- the 128 bytes of the learned table in the front of the buffer, the rest kept
   effect (looks k out) s =
-      record { length = 128; shifts = 0; lent = inFront (orElse (s .learned) noTable .entries) out; page = stays; learned = stays }
+      record { length = contexts; shifts = 0; lent = inFront (orElse (s .learned) noTable .entries) out; page = stays; learned = stays }

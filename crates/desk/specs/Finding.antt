@@ -12,8 +12,12 @@ use Rattle.ground.specs.Options.{given}
 use Rattle.desk.specs.declared.Found.{Found}
 use Rattle.desk.specs.declared.Found.the-variants.{At, Nothing}
 use Rattle.desk.specs.declared.Key.{Key}
-use Rattle.desk.specs.declared.Desk.{Desk}
-use Rattle.desk.specs.Places.{isUsed, findBy, isFound}
+use Rattle.desk.specs.declared.Sought.{Sought}
+use Rattle.desk.specs.declared.Sought.the-variants.{Used, Learned, Free}
+use Rattle.desk.specs.declared.PageLine.{PageLine}
+use Rattle.desk.specs.declared.PlaceLine.{PlaceLine}
+use Rattle.desk.specs.Desk.{Desk}
+use Rattle.desk.specs.Places.{isLearned, sameKey, isUnder, findBy, isFound}
 use Rattle.desk.specs.Standing.{pageBy, tableBy}
 
 -- an index that was found is within
@@ -21,20 +25,28 @@ abbrev pub foundBelow : ℕ → Found → Type 0
 foundBelow n (At i) = i < n
 foundBelow n Nothing = Unit {0}
 
--- used, and under the key: what isPageOf and isPlaceOf ask
-abbrev pub isUnder : ℕ → ℕ → ℕ → Key → Bool
-isUnder state school class k = isUsed state && (eqb school (k .school) && eqb class (k .class))
+-- what a search looks for, of a line's state and key
+abbrev pub isSought : Sought → ℕ → Key → Bool
+isSought (Used k) state mine = isUnder state mine k
+isSought (Learned k) state mine = isLearned state && sameKey mine k
+isSought Free state mine = eqb state 0
 
--- a search among n that has come to the i-th
-pub record Searching {A : Type 0} (test : A → Bool) (xs : List A) (n i : ℕ) : Type 0 where
+abbrev pub pageSought : Sought → PageLine → Bool
+pageSought s l = isSought s (l .state) (l .key)
+
+abbrev pub placeSought : Sought → PlaceLine → Bool
+placeSought s l = isSought s (l .state) (l .key)
+
+-- a search among n, begun at the b-th, that has come to the i-th
+pub record Searching {A : Type 0} (test : A → Bool) (xs : List A) (n b i : ℕ) : Type 0 where
   pub size : length xs ≡ n
-  pub rest : findBy test (drop i xs) i ≡ findBy test xs 0
+  pub rest : findBy test (drop i xs) i ≡ findBy test (drop b xs) b
 
-pub search-starts : {A : Type 0} {test : A → Bool} {xs : List A} {n : ℕ} → length xs ≡ n → Searching test xs n 0
+pub search-starts : {A : Type 0} {test : A → Bool} {xs : List A} {n b : ℕ} → length xs ≡ n → Searching test xs n b b
 search-starts e = record { size = e; rest = refl }
 
-module _ {A : Type 0} {test : A → Bool} {xs : List A} {n i : ℕ} (s : Searching test xs n i) where
-  pub found-nowhere : n ≤ i → (Nothing ≡ findBy test xs 0) × foundBelow n Nothing
+module _ {A : Type 0} {test : A → Bool} {xs : List A} {n b i : ℕ} (s : Searching test xs n b i) where
+  pub found-nowhere : n ≤ i → (Nothing ≡ findBy test (drop b xs) b) × foundBelow n Nothing
   unfolding findBy
   found-nowhere h =
       let past : length xs ≤ i = omega (arith, s .size) in
@@ -45,11 +57,11 @@ module _ {A : Type 0} {test : A → Bool} {xs : List A} {n i : ℕ} (s : Searchi
     within : i < length xs
     within = omega (arith, s .size)
 
-    pub found-here : test (getD xs i none) ≡ true → (At i ≡ findBy test xs 0) × foundBelow n (At i)
+    pub found-here : test (getD xs i none) ≡ true → (At i ≡ findBy test (drop b xs) b) × foundBelow n (At i)
     unfolding findBy
     found-here y = (rw (drop-cons xs i none within, y) at (s .rest), h)
 
-    pub found-later : test (getD xs i none) ≡ false → Searching test xs n (i + 1)
+    pub found-later : test (getD xs i none) ≡ false → Searching test xs n b (i + 1)
     unfolding findBy
     found-later y = record { size = s .size; rest = rw add-one (rw (drop-cons xs i none within, y) at (s .rest)) }
 

@@ -6,7 +6,7 @@ use Rattle.ground.specs.Bools.{not-true}
 use Rattle.ground.specs.Options.{given, none-given}
 use Rattle.turns.specs.Service.{Kind, opening, band, closing, abandoning, looking, changing}
 use Rattle.band.specs.Band.{Finder}
-use Rattle.desk.specs.declared.Page.{Page}
+use Rattle.desk.specs.Desk.{Page}
 use Rattle.desk.specs.Refusals.{refusal}
 use Rattle.desk.specs.Calls.{Call, opens, writes, reads, closes, abandons, drops, looks, kindOf}
 use Rattle.desk.specs.Standing.{Stand, pageOf}
@@ -26,7 +26,8 @@ module _ (finds : Finder) where
   unfoldable pub KindLaw : Kind → Call → Stand → Type 0
   -- an open: no page before, a page after, the learned table as before
   KindLaw opening c s =
-      (Passes c s → s .page ≡ none) × (Passes c s → given (afterwards (s .page) (effect finds c s .page)) ≡ true) × (effect finds c s .learned ≡ stays)
+      (Passes c s → s .page ≡ none) × (Passes c s → given (afterwards (s .page) (effect finds c s .page)) ≡ true) ×
+      (effect finds c s .learned ≡ stays)
   -- a band: a page before and after, the learned table as before
   KindLaw band c s =
       (Passes c s → given (s .page) ≡ true) × (Passes c s → given (afterwards (s .page) (effect finds c s .page)) ≡ true)

@@ -5,12 +5,11 @@ use mathlib.Core.List.{List, [], _∷_}
 use lib.Dec.{eqb, leb}
 use lib.ListN.{drop}
 use Rattle.template.specs.Pels.{rowBytes, rowPadded}
-use Rattle.band.specs.Band.{maxWidth}
+use Rattle.limits.specs.Limits.{maxKey, maxWidth}
 use Rattle.estimate.specs.Estimate.{indexOf}
-use Rattle.desk.specs.declared.Page.{Page}
-use Rattle.desk.specs.declared.Place.{Place}
-use Rattle.desk.specs.declared.Desk.{Desk}
-use Rattle.desk.specs.Places.{isUsed, isPageOf, isPlaceOf}
+use Rattle.desk.specs.declared.Key.{Key}
+use Rattle.desk.specs.Desk.{Page, Place, Desk}
+use Rattle.desk.specs.Places.{isUsed, noKey, sameKey, isPageOf, isPlaceOf}
 
 abbrev pub within : ℕ → ℕ → ℕ → Bool
 within low n high = leb low n && leb n high
@@ -30,8 +29,8 @@ apart same [] = true
 apart same (x ∷ xs) = not (any (same x) xs) && apart same xs
 
 -- each number 1 to 65,535
-abbrev pub lawfulKey : ℕ → ℕ → Bool
-lawfulKey school class = within 1 school 65535 && within 1 class 65535
+abbrev pub lawfulKey : Key → Bool
+lawfulKey k = within 1 (k .school) maxKey && within 1 (k .class) maxKey
 
 -- every index is at most 29
 abbrev pub lawfulTable : List ℕ → Bool
@@ -48,29 +47,29 @@ noStray width last = rowPadded width last && isZero (drop (rowBytes width) last)
 unfoldable pub lawfulPage : Page → Bool
 lawfulPage p =
     cond (isUsed (p .state))
-    (leb (p .state) 2 && (lawfulKey (p .school) (p .class) && (within 1 (p .width) maxWidth && (lawfulTable (p .table .entries) && noStray (p .width) (p .last)))))
-    (eqb (p .school) 0 && (eqb (p .class) 0 && (eqb (p .width) 0 && (isZero (p .table .entries) && isZero (p .last)))))
+    (leb (p .state) 2 && (lawfulKey (p .key) && (within 1 (p .width) maxWidth && (lawfulTable (p .table .entries) && noStray (p .width) (p .last)))))
+    (sameKey (p .key) noKey && (eqb (p .width) 0 && (isZero (p .table .entries) && isZero (p .last))))
 
 -- a used place has a lawful key; a learned table's indexes are at most 29; a reserved place's table, and a free place, are zero
 unfoldable pub lawfulPlace : Place → Bool
 lawfulPlace q =
     cond (isUsed (q .state))
-    (leb (q .state) 2 && (lawfulKey (q .school) (q .class) && cond (eqb (q .state) 2) (lawfulTable (q .table .entries)) (isZero (q .table .entries))))
-    (eqb (q .school) 0 && (eqb (q .class) 0 && isZero (q .table .entries)))
+    (leb (q .state) 2 && (lawfulKey (q .key) && cond (eqb (q .state) 2) (lawfulTable (q .table .entries)) (isZero (q .table .entries))))
+    (sameKey (q .key) noKey && isZero (q .table .entries))
 
 -- both are used, under one key
 abbrev pub samePages : Page → Page → Bool
-samePages p q = isUsed (p .state) && isPageOf (record { school = p .school; class = p .class }) q
+samePages p q = isUsed (p .state) && isPageOf (p .key) q
 
 abbrev pub samePlaces : Place → Place → Bool
-samePlaces p q = isUsed (p .state) && isPlaceOf (record { school = p .school; class = p .class }) q
+samePlaces p q = isUsed (p .state) && isPlaceOf (p .key) q
 
 -- an open page has its place; a reserved place has its page
 abbrev pub pageHasPlace : List Place → Page → Bool
-pageHasPlace places p = not (isUsed (p .state)) || any (isPlaceOf (record { school = p .school; class = p .class })) places
+pageHasPlace places p = not (isUsed (p .state)) || any (isPlaceOf (p .key)) places
 
 abbrev pub placeHasPage : List Page → Place → Bool
-placeHasPage pages q = not (eqb (q .state) 1) || any (isPageOf (record { school = q .school; class = q .class })) pages
+placeHasPage pages q = not (eqb (q .state) 1) || any (isPageOf (q .key)) pages
 
 unfoldable pub lawful : Desk → Bool
 lawful d =

@@ -1,3 +1,5 @@
+pub mod Desk
+pub mod Parts
 pub mod Places
 pub mod Lawful
 pub mod OpenPages
@@ -9,6 +11,11 @@ pub mod Tests
 pub mod Effects
 pub mod Changes
 pub mod Allowed
+pub mod Replies
+pub mod Beside
+pub mod Lines
+pub mod Puts
+pub mod Emptied
 pub mod Once
 pub mod Passed
 pub mod Kinds

@@ -3,8 +3,7 @@ use mathlib.Core.Path.{_≡_, sym, ap, _∙_}
 use mathlib.Core.List.{List}
 use Prim.Native.Nat.{ℕ}
 use Rattle.band.specs.Band.{Finder}
-use Rattle.desk.specs.declared.Desk.{Desk}
-use Rattle.desk.specs.declared.Outcome.{Outcome}
+use Rattle.desk.specs.Desk.{Desk, Outcome}
 use Rattle.desk.specs.Calls.{Call}
 use Rattle.desk.specs.Allowed.{outcome, lent, Allowed}
 

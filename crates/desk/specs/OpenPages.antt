@@ -6,15 +6,14 @@ use mathlib.Core.Bool.{Bool, true, false, cond, not, _&&_, _||_}
 use mathlib.Core.List.{List, [], _∷_}
 use lib.Dec.{eqb, leb}
 use lib.ListN.{getD}
-use borrow.Author.Tests.{leb-true, eqb-true}
+use borrow.Author.Tests.{leb-true, eqb-true, eq-eqb}
 use Rattle.ground.specs.Bools.{no-way, both}
 use Rattle.estimate.specs.Estimate.{indexOf, LawfulTable}
-use Rattle.band.specs.Band.{maxWidth}
+use Rattle.limits.specs.Limits.{maxWidth}
 use Rattle.desk.specs.declared.Key.{Key}
-use Rattle.desk.specs.declared.Page.{Page}
-use Rattle.desk.specs.declared.Desk.{Desk}
+use Rattle.desk.specs.Desk.{Page, Desk}
 use Rattle.desk.specs.declared.Found.the-variants.{At}
-use Rattle.desk.specs.Places.{isUsed, isPageOf, isPlaceOf, findBy, isFound, pageFound, placeFound, noPage}
+use Rattle.desk.specs.Places.{isUsed, sameKey, isPageOf, isPlaceOf, findBy, isFound, pageFound, placeFound, noPage}
 use Rattle.desk.specs.Lawful.{within, all, any, lawfulKey, lawfulTable, noStray, lawfulPage, lawfulPlace, apart, samePages, samePlaces, pageHasPlace, placeHasPage, lawful}
 
 pub within-both : (low n high : ℕ) → within low n high ≡ true → (low ≤ n) × (n ≤ high)
@@ -62,7 +61,7 @@ pub record OpenPage (p : Page) : Type 0 where
 page-open : (p : Page) → lawfulPage p ≡ true → isUsed (p .state) ≡ true → OpenPage p
 unfolding lawfulPage
 page-open p l u = parts (within 1 (p .width) maxWidth) (lawfulTable (p .table .entries)) (noStray (p .width) (p .last)) (leb (p .state) 2)
-    (lawfulKey (p .school) (p .class)) refl refl (rw u at l)
+    (lawfulKey (p .key)) refl refl (rw u at l)
   where
     parts : (w t s a k : Bool) → within 1 (p .width) maxWidth ≡ w → lawfulTable (p .table .entries) ≡ t → (a && (k && (w && (t && s)))) ≡ true
         → OpenPage p
@@ -77,16 +76,27 @@ open-page d k i l f =
     let a = at-found (isPageOf k) lawfulPage noPage (d .pages) i (both _ _ (both _ _ l .0) .0) f in
     page-open (getD (d .pages) i noPage) (a .0) (both _ _ (a .1) .0)
 
--- ---- an open page has its place
-any-found : {A : Type 0} (test : A → Bool) (xs : List A) (b : ℕ) → any test xs ≡ true → isFound (findBy test xs b) ≡ true
-unfolding any findBy
-any-found test [] b h = no-way (sym h)
-any-found test (x ∷ xs) b h = go (test x) h (any-found test xs (suc b))
+-- ---- a key is its two numbers
+pub key-self : (k : Key) → sameKey k k ≡ true
+key-self k = simp self
   where
-    go : (y : Bool) → (y || any test xs) ≡ true → (any test xs ≡ true → isFound (findBy test xs (suc b)) ≡ true) → isFound (cond y (At b)
-        (findBy test xs (suc b))) ≡ true
-    go true e ih = refl
-    go false e ih = ih e
+    self : (n : ℕ) → eqb n n ≡ true
+    self n = eq-eqb n n refl
+
+pub key-only : (j k : Key) → sameKey j k ≡ true → j ≡ k
+key-only j k h =
+    let p = both (eqb (j .school) (k .school)) (eqb (j .class) (k .class)) h in
+    λ i. record { school = eqb-true (j .school) (k .school) (p .0) i; class = eqb-true (j .class) (k .class) (p .1) i }
+
+-- ---- an open page has its place
+pub found-any : {A : Type 0} (test : A → Bool) (xs : List A) (b : ℕ) → isFound (findBy test xs b) ≡ any test xs
+unfolding any findBy
+found-any test [] b = refl
+found-any test (x ∷ xs) b = go (test x) (found-any test xs (suc b))
+  where
+    go : (y : Bool) → isFound (findBy test xs (suc b)) ≡ any test xs → isFound (cond y (At b) (findBy test xs (suc b))) ≡ (y || any test xs)
+    go true ih = refl
+    go false ih = ih
 
 pub page-placed : (d : Desk) (k : Key) (i : ℕ) → lawful d ≡ true → pageFound d k ≡ At i → isFound (placeFound d k) ≡ true
 unfolding lawful
@@ -96,15 +106,12 @@ page-placed d k i l f =
     (pageHasPlace (d .places)) (d .pages))
     (all (placeHasPage (d .pages)) (d .places)) l) f in
     let p : Page = getD (d .pages) i noPage in
-    let u = both (isUsed (p .state)) (eqb (p .school) (k .school) && eqb (p .class) (k .class)) (a .1) in
-    let m = both (eqb (p .school) (k .school)) (eqb (p .class) (k .class)) (u .1) in
-    any-found (isPlaceOf k) (d .places) 0 (has (isUsed (p .state)) (u .0) (p .school) (p .class) (eqb-true (p .school) (k .school) (m .0)) (eqb-true
-    (p .class) (k .class) (m .1)) (a .0))
+    let u = both (isUsed (p .state)) (sameKey (p .key) k) (a .1) in
+    found-any (isPlaceOf k) (d .places) 0 ∙ has (isUsed (p .state)) (u .0) (p .key) (key-only (p .key) k (u .1)) (a .0)
   where
     third : (a b c e : Bool) → (a && (b && (c && e))) ≡ true → c ≡ true
     third a b c e h = both c e (both b (c && e) (both a (b && (c && e)) h .1) .1) .0
 
-    has : (y : Bool) → y ≡ true → (school class : ℕ) → school ≡ k .school → class ≡ k .class
-        → (not y || any (isPlaceOf (record { school = school; class = class })) (d .places)) ≡ true → any (isPlaceOf k) (d .places) ≡ true
-    has false u s c e f h = no-way (sym u)
-    has true u s c e f h = rw (e, f) at h
+    has : (y : Bool) → y ≡ true → (j : Key) → j ≡ k → (not y || any (isPlaceOf j) (d .places)) ≡ true → any (isPlaceOf k) (d .places) ≡ true
+    has false u j e h = no-way (sym u)
+    has true u j e h = rw e at h

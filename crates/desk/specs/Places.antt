@@ -1,26 +1,18 @@
--- Document 01, "The desk and who may stand at it": keys, pages, places, and how they are found. Assumes nothing.
+-- Document 01, "The desk and who may stand at it": whose pages and places are, and how they are found. Assumes nothing.
 use Prim.Native.Nat.{ℕ, suc}
 use mathlib.Core.Bool.{Bool, true, false, cond, not, _&&_}
 use mathlib.Core.List.{List, [], _∷_}
 use lib.Dec.{eqb}
-use lib.ListN.{getD, set, replicate}
+use lib.ListN.{getD, replicate}
+use Rattle.limits.specs.Limits.{maxPages, maxPlaces, contexts}
 use Rattle.estimate.specs.declared.Table.{Table}
 use Rattle.band.specs.Band.{white}
 use Rattle.desk.specs.declared.Key.{Key}
-use Rattle.desk.specs.declared.Page.{Page}
-use Rattle.desk.specs.declared.Place.{Place}
-use Rattle.desk.specs.declared.Desk.{Desk}
 use Rattle.desk.specs.declared.Found.{Found}
 use Rattle.desk.specs.declared.Found.the-variants.{At, Nothing}
 use Rattle.desk.specs.declared.Direction.{Direction}
 use Rattle.desk.specs.declared.Direction.the-variants as way
-
--- At most 4 open pages and 8 class places.
-abbrev pub maxPages : ℕ
-maxPages = 4
-
-abbrev pub maxPlaces : ℕ
-maxPlaces = 8
+use Rattle.desk.specs.Desk.{Page, Place, Desk}
 
 -- a page's state: 0 unused, 1 open to write, 2 open to read; a place's: 0 free, 1 reserved, 2 learned
 abbrev pub isUsed : ℕ → Bool
@@ -34,14 +26,17 @@ stateFor way.Write = 1
 stateFor way.Read = 2
 
 -- what unused room holds
+abbrev pub noKey : Key
+noKey = record { school = 0; class = 0 }
+
 unfoldable pub zeroTable : Table
-zeroTable = record { entries = replicate 128 0 }
+zeroTable = record { entries = replicate contexts 0 }
 
 unfoldable pub unusedPage : Page
-unusedPage = record { state = 0; school = 0; class = 0; width = 0; table = zeroTable; last = white }
+unusedPage = record { state = 0; key = noKey; width = 0; table = zeroTable; last = white }
 
 unfoldable pub freePlace : Place
-freePlace = record { state = 0; school = 0; class = 0; table = zeroTable }
+freePlace = record { state = 0; key = noKey; table = zeroTable }
 
 unfoldable pub emptyDesk : Desk
 emptyDesk = record { pages = replicate maxPages unusedPage; places = replicate maxPlaces freePlace }
@@ -51,20 +46,27 @@ abbrev pub noTable : Table
 noTable = record { entries = [] }
 
 abbrev pub noPage : Page
-noPage = record { state = 0; school = 0; class = 0; width = 0; table = noTable; last = [] }
+noPage = record { state = 0; key = noKey; width = 0; table = noTable; last = [] }
 
 abbrev pub noPlace : Place
-noPlace = record { state = 0; school = 0; class = 0; table = noTable }
+noPlace = record { state = 0; key = noKey; table = noTable }
 
 -- ---- whose they are: the school and the class
+abbrev pub sameKey : Key → Key → Bool
+sameKey a b = eqb (a .school) (b .school) && eqb (a .class) (b .class)
+
+-- used, and under the key k
+abbrev pub isUnder : ℕ → Key → Key → Bool
+isUnder state mine k = isUsed state && sameKey mine k
+
 abbrev pub isPageOf : Key → Page → Bool
-isPageOf k p = isUsed (p .state) && (eqb (p .school) (k .school) && eqb (p .class) (k .class))
+isPageOf k p = isUnder (p .state) (p .key) k
 
 abbrev pub isPlaceOf : Key → Place → Bool
-isPlaceOf k p = isUsed (p .state) && (eqb (p .school) (k .school) && eqb (p .class) (k .class))
+isPlaceOf k p = isUnder (p .state) (p .key) k
 
 abbrev pub isTableOf : Key → Place → Bool
-isTableOf k p = isLearned (p .state) && (eqb (p .school) (k .school) && eqb (p .class) (k .class))
+isTableOf k p = isLearned (p .state) && sameKey (p .key) k
 
 abbrev pub isFreePage : Page → Bool
 isFreePage p = eqb (p .state) 0
@@ -105,8 +107,3 @@ pageAt d Nothing = noPage
 abbrev pub placeAt : Desk → Found → Place
 placeAt d (At i) = getD (d .places) i noPlace
 placeAt d Nothing = noPlace
-
--- the desk with a place put there
-abbrev pub withPlace : Desk → Found → Place → Desk
-withPlace d (At i) p = record { pages = d .pages; places = set (d .places) i p }
-withPlace d Nothing p = d

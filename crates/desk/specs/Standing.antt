@@ -4,8 +4,7 @@ use mathlib.Core.Option.{Option, some, none}
 use Rattle.ground.specs.Options.{orElse}
 use Rattle.estimate.specs.declared.Table.{Table}
 use Rattle.desk.specs.declared.Key.{Key}
-use Rattle.desk.specs.declared.Page.{Page}
-use Rattle.desk.specs.declared.Desk.{Desk}
+use Rattle.desk.specs.Desk.{Page, Desk}
 use Rattle.desk.specs.declared.Found.{Found}
 use Rattle.desk.specs.declared.Found.the-variants.{At, Nothing}
 use Rattle.desk.specs.Places.{noPage, pageFound, tableFound, freePageFound, freePlaceFound, isFound, pageAt, placeAt}

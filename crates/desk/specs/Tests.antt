@@ -8,9 +8,10 @@ use lib.Dec.{eqb, ltb}
 use lib.ListN.{length}
 use Rattle.ground.specs.Options.{given}
 use Rattle.template.specs.Pels.{rowBytes, bandPadded}
-use Rattle.band.specs.Band.{maxWidth, maxRows, maxCode, Written, written, hasRoom, Finder}
+use Rattle.limits.specs.Limits.{maxWidth, maxRows, maxCode, contexts}
+use Rattle.band.specs.Band.{Written, written, hasRoom, Finder}
 use Rattle.desk.specs.declared.Key.{Key}
-use Rattle.desk.specs.declared.Page.{Page}
+use Rattle.desk.specs.Desk.{Page}
 use Rattle.desk.specs.Lawful.{within, lawfulKey}
 use Rattle.desk.specs.Refusals.{Row, row, order, from, inOrder}
 use Rattle.desk.specs.Calls.{Call, opens, writes, reads, closes, abandons, drops, looks}
@@ -25,7 +26,7 @@ abbrev pub unlawful : Stand → Row
 unlawful s = row 12 (not (s .sound))
 
 abbrev pub unknown : Key → Row
-unknown k = row 1 (not (lawfulKey (k .school) (k .class)))
+unknown k = row 1 (not (lawfulKey k))
 
 module _ (finds : Finder) where
   -- what is found in a code, on a page
@@ -64,7 +65,7 @@ module _ (finds : Finder) where
   tests (closes k) s = unlawful s ∷ unknown k ∷ row 2 (not (given (s .page))) ∷ []
   tests (abandons k) s = unlawful s ∷ unknown k ∷ row 2 (not (given (s .page))) ∷ []
   tests (drops k) s = unlawful s ∷ unknown k ∷ row 3 (given (s .page)) ∷ row 11 (not (given (s .learned))) ∷ []
-  tests (looks k out) s = unlawful s ∷ unknown k ∷ row 11 (not (given (s .learned))) ∷ row 9 (ltb (length out) 128) ∷ []
+  tests (looks k out) s = unlawful s ∷ unknown k ∷ row 11 (not (given (s .learned))) ∷ row 9 (ltb (length out) contexts) ∷ []
 
   -- each call's tests stand in the table's order
   pub in-order : (c : Call) (s : Stand) → inOrder (tests c s) order ≡ true

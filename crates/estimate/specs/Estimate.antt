@@ -4,6 +4,7 @@ use mathlib.Core.Bool.{Bool, true, false, cond, _||_}
 use mathlib.Core.List.{List, [], _∷_}
 use lib.ListN.{getD, replicate}
 use lib.Dec.{ltb, eqb}
+use Rattle.limits.specs.Limits.{contexts}
 
 -- source document 002, table 1, index 0 to 29
 abbrev pub rows : List ℕ
@@ -47,9 +48,9 @@ next false e = entryOf (indexOf e - fall (indexOf e)) (flip (indexOf e) (senseOf
 abbrev pub LawfulEntry : ℕ → Type 0
 LawfulEntry e = indexOf e ≤ 29
 
--- A fresh table has 128 contexts, every one index 0 and sense 0.
+-- A fresh table has every context at index 0 and sense 0.
 unfoldable pub fresh : List ℕ
-fresh = replicate 128 0
+fresh = replicate contexts 0
 
 -- a lawful table: every index is at most 29
 abbrev pub LawfulTable : List ℕ → Type 0

@@ -12,6 +12,7 @@ use lib.Dec.{T, leb, ltb, eqb, leb→le, nltb→le}
 use borrow.Author.Tests.{eq-eqb, ne-eqb}
 use Rattle.ground.specs.Tests.{by-cond, neqb→ne, same?}
 use Rattle.ground.specs.Tables.{at-each, and-left, and-right}
+use Rattle.limits.specs.Limits.{contexts}
 use Rattle.estimate.specs.Estimate.{rows, rowOf, rise, fall, flip, next, indexOf, senseOf, fresh, LawfulEntry, LawfulTable}
 
 -- ---- the values
@@ -81,9 +82,11 @@ unfolding next flip
 next-fall e f h k = let l : fall (e / 2) ≤ e / 2 = fall-small (e / 2) in (omega arith, rw (ne-eqb (e / 2) 0 k) (omega arith))
 
 -- ---- tables
-pub fresh-entry : (cx : ℕ) → cx < 128 → (indexOf (getD fresh cx 0) ≡ 0) × (senseOf (getD fresh cx 0) ≡ 0)
+pub fresh-entry : (cx : ℕ) → cx < contexts → (indexOf (getD fresh cx 0) ≡ 0) × (senseOf (getD fresh cx 0) ≡ 0)
 unfolding fresh
-fresh-entry cx h = let e : getD (replicate 128 0) cx 0 ≡ zero = getD-replicate 128 cx 0 0 h in (ap (λ (x : ℕ). x / 2) e, ap (λ (x : ℕ). x % 2) e)
+fresh-entry cx h =
+    let e : getD (replicate contexts 0) cx 0 ≡ zero = getD-replicate contexts cx 0 0 h in
+    (ap (λ (x : ℕ). x / 2) e, ap (λ (x : ℕ). x % 2) e)
 
 -- one entry changed
 pub set-lawful : (t : List ℕ) (cx e : ℕ) → LawfulTable t → LawfulEntry e → LawfulTable (set t cx e)

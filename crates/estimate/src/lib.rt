@@ -2,11 +2,12 @@
 ghost use mathlib.Core.Path.{_≡_};
 ghost use Prim.Native.Nat.{_*_, _≤_};
 ghost use Rattle.estimate.specs.Estimate.{rowOf, fall, next, fresh, LawfulEntry};
+use limits::CONTEXTS;
 
 // One entry for each context, 2 × index + sense.
 #[repr(C)]
 pub struct Table {
-    pub entries: [u8; 128],
+    pub entries: [u8; CONTEXTS],
 }
 
 impl Table {
@@ -15,7 +16,7 @@ impl Table {
         ensures { λ r. ⌜ r .entries ≡ fresh ⌝ }
     {
         Table {
-            entries: [0u8; 128],
+            entries: [0u8; CONTEXTS],
         }
     }
 }

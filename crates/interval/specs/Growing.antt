@@ -6,6 +6,7 @@ use native.Mathlib.Nat.{pow-succ', mul-one, add-zero}
 use native.Mathlib.Omega.{arith}
 use lib.Dec.{ltb}
 use borrow.Author.Tests.{lt-ltb}
+use Rattle.limits.specs.Limits.{maxShifts}
 use Rattle.ground.specs.Tests.{if-ge, by-cond₂, by-cond}
 use Rattle.interval.specs.declared.Interval.{Interval}
 use Rattle.interval.specs.Interval.{decision, partOf, doubled, grown, doublings}
@@ -62,9 +63,9 @@ pub record Fits (v : Interval) : Type 0 where
   pub some : 1 ≤ v .width
   pub small : v .width < 8192
   pub low : v .low < 2 ^ 26
-  pub count : v .count < 2 ^ 32
+  pub count : v .count < maxShifts
 
-pub part-fits : (q : ℕ) (e : Bool) (i : Interval) → 4096 ≤ i .width → i .width < 8192 → 1 ≤ q → q ≤ 0xAC1 → i .low < 2 ^ 25 → i .count < 2 ^ 32
+pub part-fits : (q : ℕ) (e : Bool) (i : Interval) → 4096 ≤ i .width → i .width < 8192 → 1 ≤ q → q ≤ 0xAC1 → i .low < 2 ^ 25 → i .count < maxShifts
     → Fits (partOf (decision q e) i)
 part-fits q true i a b c d l n = record { some = omega arith; small = omega arith; low = omega arith; count = n }
 part-fits q false i a b c d l n = record { some = c; small = omega arith; low = omega arith; count = n }

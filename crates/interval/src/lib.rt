@@ -1,6 +1,7 @@
 // The interval by value: one pel coded, the doublings counted.
 ghost use mathlib.Core.Path.{_≡_};
 ghost use Prim.Native.Nat.{_*_, _≤_, _<_, _^_};
+ghost use Rattle.limits.specs.Limits.{maxWidth, maxShifts};
 ghost use Rattle.interval.specs.Interval.{whole, decision, partOf, grown, doublings, coded};
 
 // The lower end (what of it is in no byte yet), the width, and the shifts so far.
@@ -26,7 +27,7 @@ fn shifts_for(width: u64) -> u64
 
 // How many of n expected pels of the size q fit into so much room.
 pub fn fits(n: usize, q: u64, room: u64) -> usize
-    requires { ⌜ (n ≤ 65535) × (1 ≤ q) × (q ≤ 0xAC1) × (room < 8192) ⌝ }
+    requires { ⌜ (n ≤ maxWidth) × (1 ≤ q) × (q ≤ 0xAC1) × (room < 8192) ⌝ }
     ensures { λ r. ⌜ (r ≤ n) × (r * q ≤ room) ⌝ }
 {
     if (n as u64) * q <= room {
@@ -67,7 +68,7 @@ impl Interval {
 
     // Both doubled while the width is below 1000 hex: all at once.
     pub fn grow(self) -> Coded
-        requires { ⌜ (1 ≤ self .width) × (self .width < 8192) × (self .low < 2 ^ 26) × (self .count < 2 ^ 32) ⌝ }
+        requires { ⌜ (1 ≤ self .width) × (self .width < 8192) × (self .low < 2 ^ 26) × (self .count < maxShifts) ⌝ }
         ensures { λ r. ⌜ (r .interval ≡ grown 12 self) × (r .shifts ≡ doublings 12 (self .width)) ⌝ }
     {
         let k = shifts_for(self.width);
@@ -87,7 +88,7 @@ impl Interval {
 
     // One pel.
     pub fn code(self, q: u64, expected: bool) -> Coded
-        requires { ⌜ (0x1000 ≤ self .width) × (self .width < 8192) × (1 ≤ q) × (q ≤ 0xAC1) × (self .low < 2 ^ 25) × (self .count < 2 ^ 32) ⌝ }
+        requires { ⌜ (0x1000 ≤ self .width) × (self .width < 8192) × (1 ≤ q) × (q ≤ 0xAC1) × (self .low < 2 ^ 25) × (self .count < maxShifts) ⌝ }
         ensures { λ r. ⌜ (r .interval ≡ coded (decision q expected) self) × (r .shifts ≡ doublings 12 (partOf (decision q expected) self .width)) ⌝ }
     {
         let part = self.part(q, expected);

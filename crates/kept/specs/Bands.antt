@@ -14,7 +14,8 @@ use Rattle.coder.specs.Page.{Page, contextOf, entryAt, sense, taught, placed, m
 use Rattle.estimate.specs.Estimate.{indexOf, next}
 use Rattle.estimate.specs.Laws.{next-lawful}
 use Rattle.template.specs.Pels.{rowBytes, rowAt, bandTo, rowPadded, bandPadded}
-use Rattle.band.specs.Band.{qScheme, qWriter, qPage, pageAt, white, lastBytes, lastRow, written}
+use Rattle.limits.specs.Limits.{lastBytes}
+use Rattle.band.specs.Band.{qScheme, qWriter, qPage, pageAt, white, lastRow, written}
 use Rattle.desk.specs.OpenPages.{all-get}
 use Rattle.desk.specs.Lawful.{all, lawfulTable, isZero, noStray}
 use Rattle.ground.specs.Bools.{both, and-true}

@@ -9,17 +9,16 @@ use Rattle.turns.specs.Slots.{free}
 use Rattle.turns.specs.Shelves.{cellAt}
 use Rattle.estimate.specs.declared.Table.{Table}
 use Rattle.desk.specs.declared.Key.{Key}
-use Rattle.desk.specs.declared.Page.{Page}
-use Rattle.desk.specs.declared.Place.{Place}
-use Rattle.desk.specs.declared.Desk.{Desk}
+use Rattle.desk.specs.Desk.{Page, Place, Desk}
 use Rattle.desk.specs.declared.Found.{Found}
 use Rattle.desk.specs.declared.Found.the-variants.{At, Nothing}
-use Rattle.desk.specs.Places.{isUsed, isLearned, noPage, noPlace, isPageOf, isTableOf, isFreePage, isFreePlace, pageFound, tableFound, freePageFound, freePlaceFound, isFound}
+use Rattle.desk.specs.Places.{isUsed, isLearned, noPage, noPlace, sameKey, isPageOf, isTableOf, isFreePage, isFreePlace}
+use Rattle.desk.specs.Places.{pageFound, tableFound, freePageFound, freePlaceFound, isFound}
 use Rattle.desk.specs.Lawful.{lawfulPage, lawfulPlace}
 use Rattle.desk.specs.Finding.{found-page, found-table}
 use Rattle.desk.specs.Standing.{pageBy, tableBy, openPage, learnedTable}
 use Rattle.kept.specs.Lists.{pick, pick-passes, pick-all, found-given, valueAt, value-found}
-use Rattle.kept.specs.View.{sameKey, K, pageKey, placeKey, shelves, page-read, page-free, place-free, table-read}
+use Rattle.kept.specs.View.{K, shelves, page-read, page-free, place-free, table-read}
 use Rattle.kept.specs.Sound.{Sound}
 
 -- what stands under a key: the learned table or none, the open page or none
@@ -64,10 +63,10 @@ module _ (d : Desk) (s : Sound d) (k : Key) where
   place-free-found = found-given isFreePlace (d .places) 0 ∙ sym (place-free (d .places))
 
   -- ---- the open page and the learned table are lawful
-  pub page-own : (p : Page) → openPage d k ≡ some p → (isUsed (p .state) ≡ true) × (sameKey (pageKey p) k ≡ true) × (lawfulPage p ≡ true)
+  pub page-own : (p : Page) → openPage d k ≡ some p → (isUsed (p .state) ≡ true) × (sameKey (p .key) k ≡ true) × (lawfulPage p ≡ true)
   page-own p e =
       let f : pick (isPageOf k) (d .pages) ≡ some p = sym page-pick ∙ e in
-      let u = both (isUsed (p .state)) (sameKey (pageKey p) k) (pick-passes (isPageOf k) (d .pages) p f) in
+      let u = both (isUsed (p .state)) (sameKey (p .key) k) (pick-passes (isPageOf k) (d .pages) p f) in
       (u .0, u .1, pick-all lawfulPage (isPageOf k) (d .pages) p (s .pages-lawful) f)
 
   pub place-own : (t : Table) → learnedTable d k ≡ some t → (q : Place) × (q .table ≡ t) × (isLearned (q .state) ≡ true) × (lawfulPlace q ≡ true)
@@ -80,7 +79,7 @@ module _ (d : Desk) (s : Sound d) (k : Key) where
           let e : q .table ≡ t = cc in (
             q,
             e,
-            both (isLearned (q .state)) (sameKey (placeKey q) k) (pick-passes (isTableOf k) (d .places) q f) .0,
+            both (isLearned (q .state)) (sameKey (q .key) k) (pick-passes (isTableOf k) (d .places) q f) .0,
             pick-all lawfulPlace
                 (isTableOf k) (d .places) q (s .places-lawful) f,
           )

@@ -10,9 +10,7 @@ use Rattle.turns.specs.Rows.{atFirst, hasName, isFree, update-same, update-free
 use Rattle.turns.specs.Shelves.{placeOf, slotStore, noSlot, noClassPlace}
 use Rattle.estimate.specs.declared.Table.{Table}
 use Rattle.desk.specs.declared.Key.{Key}
-use Rattle.desk.specs.declared.Page.{Page}
-use Rattle.desk.specs.declared.Place.{Place}
-use Rattle.desk.specs.declared.Desk.{Desk}
+use Rattle.desk.specs.Desk.{Page, Place, Desk}
 use Rattle.desk.specs.Places.{unusedPage, freePlace, isPageOf, isPlaceOf, isTableOf, isFreePage, isFreePlace, placeFound, tableFound, freePageFound, freePlaceFound, isFound}
 use Rattle.kept.specs.Lists.{pick, found-given}
 use Rattle.ground.specs.Bools.{no-way}

@@ -1,10 +1,10 @@
 -- What makes a page and a table lawful again: a new page, a page after a band. Assumes nothing.
 use mathlib.Core.Path.{_≡_, refl, sym, ap}
-use mathlib.Core.Bool.{Bool, true, false, cond, not, _&&_}
+use mathlib.Core.Bool.{Bool, true, false, not}
 use mathlib.Core.List.{List, []}
 use mathlib.Core.Option.{Option, some, none}
 use Prim.Native.Nat.{ℕ, _*_, _≤_}
-use lib.Dec.{eqb, leb}
+use lib.Dec.{leb}
 use lib.ListN.{length}
 use borrow.Author.Tests.{leb-true}
 use Rattle.ground.specs.Bools.{no-way, both, not-true}
@@ -14,20 +14,20 @@ use Rattle.turns.specs.Slots.{named}
 use Rattle.estimate.specs.declared.Table.{Table}
 use Rattle.estimate.specs.Estimate.{fresh}
 use Rattle.template.specs.Pels.{rowBytes, bandPadded}
-use Rattle.band.specs.Band.{maxWidth, maxRows, Written, written, Right}
+use Rattle.limits.specs.Limits.{maxWidth, maxRows}
+use Rattle.band.specs.Band.{Written, written, Right}
 use Rattle.desk.specs.declared.Key.{Key}
 use Rattle.desk.specs.declared.Opening.{Opening}
 use Rattle.desk.specs.declared.Direction.{Direction}
 use Rattle.desk.specs.declared.Direction.the-variants as way
-use Rattle.desk.specs.declared.Page.{Page}
-use Rattle.desk.specs.declared.Place.{Place}
-use Rattle.desk.specs.declared.Desk.{Desk}
+use Rattle.desk.specs.Desk.{Page, Place, Desk}
 use Rattle.desk.specs.Places.{stateFor, isUsed, isLearned, noPage}
-use Rattle.desk.specs.Lawful.{all, within, lawfulKey, lawfulTable, isZero, noStray, lawfulPage, lawfulPlace, lawful}
+use Rattle.desk.specs.Lawful.{all, within, lawfulKey, lawfulTable, noStray, lawfulPage, lawfulPlace}
+use Rattle.desk.specs.OpenPages.{key-only}
 use Rattle.desk.specs.Standing.{Stand, pageOf, stand}
 use Rattle.desk.specs.Tests.{bandOf}
 use Rattle.desk.specs.Effects.{Effect, becomes, freshTable, newPage, servedPage}
-use Rattle.kept.specs.View.{key-only, K, pageKey, viewPageBy, learned-used}
+use Rattle.kept.specs.View.{K, viewPageBy, learned-used}
 use Rattle.kept.specs.Sound.{Sound}
 use Rattle.kept.specs.Bands.{table-lawful, white-clear, last-clear}
 use Rattle.kept.specs.Cells.{page-own, place-own}
@@ -37,7 +37,7 @@ use Rattle.kept.specs.Stored.{Clean, LawfulPage, LawfulTable}
 pub record PageFacts (p : Page) : Type 0 where
   pub used : isUsed (p .state) ≡ true
   pub state : leb (p .state) 2 ≡ true
-  pub key : lawfulKey (p .school) (p .class) ≡ true
+  pub key : lawfulKey (p .key) ≡ true
   pub width : within 1 (p .width) maxWidth ≡ true
   pub table : lawfulTable (p .table .entries) ≡ true
   pub clear : noStray (p .width) (p .last) ≡ true
@@ -45,12 +45,10 @@ pub record PageFacts (p : Page) : Type 0 where
 page-facts : (p : Page) → lawfulPage p ≡ true → isUsed (p .state) ≡ true → PageFacts p
 unfolding lawfulPage
 page-facts p h u =
-    let p1 = both (leb (p .state) 2) (lawfulKey (p .school) (p .class) && (within 1 (p .width) maxWidth && (lawfulTable
-    (p .table .entries) && noStray (p .width) (p .last)))) (rw u at h) in
-    let p2 = both (lawfulKey (p .school) (p .class)) (within 1 (p .width) maxWidth && (lawfulTable (p .table .entries) && noStray (p .width)
-    (p .last))) (p1 .1) in
-    let p3 = both (within 1 (p .width) maxWidth) (lawfulTable (p .table .entries) && noStray (p .width) (p .last)) (p2 .1) in
-    let p4 = both (lawfulTable (p .table .entries)) (noStray (p .width) (p .last)) (p3 .1) in
+    let p1 = both _ _ (rw u at h) in
+    let p2 = both _ _ (p1 .1) in
+    let p3 = both _ _ (p2 .1) in
+    let p4 = both _ _ (p3 .1) in
     record { used = u; state = p1 .0; key = p2 .0; width = p3 .0; table = p4 .0; clear = p4 .1 }
 
 facts-page : (p : Page) → PageFacts p → lawfulPage p ≡ true
@@ -60,35 +58,27 @@ facts-page p f = rw (f .used, f .state, f .key, f .width, f .table, f .clear)
 place-table : (q : Place) → lawfulPlace q ≡ true → isLearned (q .state) ≡ true → lawfulTable (q .table .entries) ≡ true
 unfolding lawfulPlace
 place-table q h l =
-    both (lawfulKey (q .school) (q .class)) (lawfulTable (q .table .entries)) (both (leb (q .state) 2) (lawfulKey (q .school)
-    (q .class) && lawfulTable (q .table .entries)) (go (eqb (q .state) 2) l h) .1) .1
-  where
-    go : (b : Bool) → b ≡ true
-        → cond (isUsed (q .state)) (leb (q .state) 2 && (lawfulKey (q .school) (q .class) && cond b (lawfulTable (q .table .entries)) (isZero
-        (q .table .entries)))) (eqb (q .school) 0 && (eqb (q .class) 0 && isZero (q .table .entries))) ≡ true
-        → (leb (q .state) 2 && (lawfulKey (q .school) (q .class) && lawfulTable (q .table .entries))) ≡ true
-    go false e h = no-way (sym e)
-    go true e h = rw (learned-used (q .state) l) at h
+    both (lawfulKey (q .key)) (lawfulTable (q .table .entries)) (both (leb (q .state) 2) _ (rw (learned-used (q .state) l, l) at h) .1) .1
 
 -- ---- what a call meets at a lawful desk
 abbrev pub under : Stand → Cell Table Page
 under s = cell (s .learned) (s .page)
 
 pub record Owned (k : Key) (s : Stand) : Type 0 where
-  pub page : (p : Page) → s .page ≡ some p → PageFacts p × (pageKey p ≡ k)
+  pub page : (p : Page) → s .page ≡ some p → PageFacts p × (p .key ≡ k)
   pub learned : (t : Table) → s .learned ≡ some t → lawfulTable (t .entries) ≡ true
 
 pub owned : (d : Desk) → Sound d → (k : Key) → Owned k (stand d k)
 unfolding stand
 owned d s k =
     record {
-      page = λ p e. let o = page-own d s k p e in (page-facts p (o .2) (o .0), key-only (pageKey p) k (o .1));
+      page = λ p e. let o = page-own d s k p e in (page-facts p (o .2) (o .0), key-only (p .key) k (o .1));
       learned = λ t e. let (q, f, l, h) = place-own d s k t e in rw (← f) (place-table q h l);
     }
 
 -- ---- what each call makes of it
 pub record Fair (k : Key) (s : Stand) (e : Effect) : Type 0 where
-  pub known : lawfulKey (k .school) (k .class) ≡ true
+  pub known : lawfulKey k ≡ true
   pub clean : Clean (under s) (e .page) (e .learned)
   pub page : LawfulPage k (e .page)
   pub table : LawfulTable (e .learned)
@@ -109,7 +99,7 @@ page-state : (w : Direction) → (isUsed (stateFor w) ≡ true) × (leb (stateFo
 page-state way.Write = (refl, refl)
 page-state way.Read = (refl, refl)
 
-shown : (b : Bool) (p : Page) (k : Key) → b ≡ true → pageKey p ≡ k → viewPageBy b p ≡ named K Page k p
+shown : (b : Bool) (p : Page) (k : Key) → b ≡ true → p .key ≡ k → viewPageBy b p ≡ named K Page k p
 shown true p k e m = ap (λ (j : Key). named K Page j p) m
 shown false p k e m = no-way (sym e)
 
@@ -151,7 +141,7 @@ module _ (k : Key) (s : Stand) (o : Owned k s) where
       go (some t) e = o .learned t e
 
 -- a new page
-pub new-fair : (ask : Opening) (t : Table) → lawfulKey (ask .key .school) (ask .key .class) ≡ true → within 1 (ask .width) maxWidth ≡ true
+pub new-fair : (ask : Opening) (t : Table) → lawfulKey (ask .key) ≡ true → within 1 (ask .width) maxWidth ≡ true
     → lawfulTable (t .entries) ≡ true
     → LawfulPage (ask .key) (becomes (newPage ask t))
 unfolding newPage
@@ -169,8 +159,8 @@ new-fair ask t h w l = (
       }),
 )
 
-pub lawful-key : (k : Key) → not (lawfulKey (k .school) (k .class)) ≡ false → lawfulKey (k .school) (k .class) ≡ true
-lawful-key k h = not-true (lawfulKey (k .school) (k .class)) h
+pub lawful-key : (k : Key) → not (lawfulKey k) ≡ false → lawfulKey k ≡ true
+lawful-key k h = not-true (lawfulKey k) h
 
 pub some-rows : (rows : ℕ) → not (within 1 rows maxRows) ≡ false → 1 ≤ rows
 some-rows rows h = leb-true 1 rows (both (leb 1 rows) (leb rows maxRows) (not-true (within 1 rows maxRows) h) .0)

@@ -13,11 +13,10 @@ use Rattle.turns.specs.Shelves.{placeOf, cellAt, noSlot, noClassPlace, own-cell
 use Rattle.estimate.specs.declared.Table.{Table}
 use Rattle.band.specs.Band.{white, Reader}
 use Rattle.desk.specs.declared.Key.{Key}
-use Rattle.desk.specs.declared.Page.{Page}
-use Rattle.desk.specs.declared.Desk.{Desk}
-use Rattle.desk.specs.declared.Outcome.{Outcome}
-use Rattle.desk.specs.Places.{zeroTable, unusedPage, freePlace, emptyDesk, freePageFound, freePlaceFound, isFound}
+use Rattle.desk.specs.Desk.{Page, Desk, Outcome}
+use Rattle.desk.specs.Places.{zeroTable, unusedPage, freePlace, emptyDesk, sameKey, freePageFound, freePlaceFound, isFound}
 use Rattle.desk.specs.Lawful.{all, any, apart, lawfulPage, lawfulPlace, lawful}
+use Rattle.desk.specs.OpenPages.{key-only}
 use Rattle.desk.specs.Refusals.{refusal}
 use Rattle.desk.specs.Calls.{Call, looks, keyOf, kindOf}
 use Rattle.desk.specs.Standing.{openPage, learnedTable, stand}
@@ -26,7 +25,7 @@ use Rattle.desk.specs.Effects.{Change, stays, Effect, effect, afterwards}
 use Rattle.desk.specs.Changes.{changed}
 use Rattle.desk.specs.Allowed.{done, unless, number, effectOn, outcome, lent}
 use Rattle.desk.specs.Kinds.{KindLaw, kind-law}
-use Rattle.kept.specs.View.{sameKey, key-only, K, shelves, Shelf}
+use Rattle.kept.specs.View.{K, shelves, Shelf}
 use Rattle.kept.specs.Sound.{Sound, lawful-sound, sound-lawful}
 use Rattle.kept.specs.Cells.{cellOf, page-is, learned-is}
 use Rattle.kept.specs.Changes.{slot-room, place-room}

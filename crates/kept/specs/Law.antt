@@ -8,7 +8,8 @@ use borrow.Author.Tests.{eqb-true}
 use Rattle.ground.specs.Bools.{not-true, and-false}
 use Rattle.ground.specs.Options.{given, orElse, none-given}
 use Rattle.template.specs.Pels.{rowBytes, bandPadded}
-use Rattle.band.specs.Band.{maxWidth, Reader}
+use Rattle.limits.specs.Limits.{maxWidth}
+use Rattle.band.specs.Band.{Reader}
 use Rattle.desk.specs.Places.{noPage}
 use Rattle.desk.specs.Lawful.{within, lawfulKey}
 use Rattle.desk.specs.Refusals.{refusal}
@@ -51,7 +52,7 @@ module _ (R : Reader) where
       record {
         same = refl;
         other = quiet-number (tests (R .finds) (opens ask) (roomy s)) (rw (and-false (not (given (s .learned)))));
-        last = λ h. rw h (opens-last (not (lawfulKey (ask .key .school) (ask .key .class))) (not (within 1 (ask .width) maxWidth)) (s .page)
+        last = λ h. rw h (opens-last (not (lawfulKey (ask .key))) (not (within 1 (ask .width) maxWidth)) (s .page)
             (s .learned) (s .pageFree) (s .placeFree) _);
         fair =
             λ o e.

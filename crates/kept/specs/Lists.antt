@@ -1,5 +1,5 @@
 -- Rows of structs: what is found from the front, and what a change at the index found leaves. Assumes nothing.
-use mathlib.Core.Path.{_≡_, refl, sym, ap}
+use mathlib.Core.Path.{_≡_, refl, sym, ap, _∙_}
 use mathlib.Core.Bool.{Bool, true, false, cond, _||_}
 use mathlib.Core.List.{List, [], _∷_}
 use mathlib.Core.Option.{Option, some, none}
@@ -14,6 +14,7 @@ use Rattle.desk.specs.declared.Found.the-variants.{At, Nothing}
 use Rattle.desk.specs.Places.{findBy, isFound}
 use Rattle.desk.specs.Changes.{setAt}
 use Rattle.desk.specs.Lawful.{all, any}
+use Rattle.desk.specs.OpenPages.{found-any}
 
 -- ---- the first that passes
 unfoldable pub pick : {A : Type 0} → (A → Bool) → List A → Option A
@@ -48,13 +49,7 @@ pick-any {A} t (x ∷ s) = go (t x) (pick-any t s)
     go false ih = ih
 
 pub found-given : {A : Type 0} (t : A → Bool) (s : List A) (i : ℕ) → isFound (findBy t s i) ≡ given (pick t s)
-unfolding pick findBy
-found-given t [] i = refl
-found-given {A} t (x ∷ s) i = go (t x) (found-given t s (suc i))
-  where
-    go : (b : Bool) → isFound (findBy t s (suc i)) ≡ given (pick t s) → isFound (cond b (At i) (findBy t s (suc i))) ≡ given (cond b (some x) (pick t s))
-    go true ih = refl
-    go false ih = ih
+found-given t s i = found-any t s i ∙ sym (pick-any t s)
 
 -- what stands at the index found
 abbrev pub valueAt : {A : Type 0} → Found → List A → A → Option A

@@ -9,10 +9,9 @@ use Rattle.ground.specs.Bools.{no-way, both}
 use Rattle.ground.specs.Options.{given}
 use Rattle.turns.specs.Shelves.{placeOf}
 use Rattle.estimate.specs.declared.Table.{Table}
-use Rattle.desk.specs.declared.Page.{Page}
+use Rattle.desk.specs.Desk.{Page}
 use Rattle.desk.specs.Refusals.{Row, refusal}
 use Rattle.desk.specs.Standing.{Stand}
-use Rattle.desk.specs.Tests.{tests}
 use Rattle.desk.specs.Effects.{stays, gone, Effect, does, afterwards}
 
 -- a lawful desk with room for any page and place

@@ -13,14 +13,13 @@ use Rattle.turns.specs.Slots.{find, Lone}
 use Rattle.turns.specs.Shelves.{join, placeOf, Fitting}
 use Rattle.estimate.specs.declared.Table.{Table}
 use Rattle.desk.specs.declared.Key.{Key}
-use Rattle.desk.specs.declared.Page.{Page}
-use Rattle.desk.specs.declared.Place.{Place}
-use Rattle.desk.specs.declared.Desk.{Desk}
-use Rattle.desk.specs.Places.{isUsed, isLearned, isPageOf, isPlaceOf}
-use Rattle.desk.specs.Lawful.{all, any, apart, lawfulKey, lawfulTable, isZero, lawfulPage, lawfulPlace, samePages, samePlaces, pageHasPlace, placeHasPage, lawful}
+use Rattle.desk.specs.Desk.{Page, Place, Desk}
+use Rattle.desk.specs.Places.{isUsed, isLearned, sameKey, isPageOf, isPlaceOf}
+use Rattle.desk.specs.Lawful.{all, any, apart, lawfulPage, lawfulPlace, samePages, samePlaces, pageHasPlace, placeHasPage, lawful}
+use Rattle.desk.specs.OpenPages.{key-self, key-only}
 use Rattle.kept.specs.Lists.{pick, pick-all, pick-any, pick-passes}
 use Rattle.ground.specs.Bools.{no-way, both, and-true, not-false, or-true}
-use Rattle.kept.specs.View.{sameKey, key-self, key-only, K, pageKey, placeKey, viewPageBy, viewPage, learnedBy, learnedIn, viewPlaceBy, viewPlace, shelves, page-read, place-read}
+use Rattle.kept.specs.View.{K, viewPageBy, viewPage, learnedBy, learnedIn, viewPlaceBy, viewPlace, shelves, page-read, place-read}
 
 pub record Sound (d : Desk) : Type 0 where
   pub pages-lawful : all lawfulPage (d .pages) ≡ true
@@ -39,8 +38,9 @@ unfolding apart Lone
 pages-lone [] h = tt
 pages-lone (p ∷ s) h = go (isUsed (p .state)) (both (not (any (samePages p) s)) (apart samePages s) h .0) (pages-lone s (both (not (any (samePages p) s)) (apart samePages s) h .1))
   where
-    go : (b : Bool) → not (any (λ q. b && isPageOf (pageKey p) q) s) ≡ true → Lone K Page (map viewPage s) → Lone K Page (viewPageBy b p ∷ map viewPage s)
-    go true n ih = (none-given (find K Page (pageKey p) (map viewPage s)) (page-any (pageKey p) s ∙ not-false (any (isPageOf (pageKey p)) s) n), ih)
+    go : (b : Bool) → not (any (λ q. b && isPageOf (p .key) q) s) ≡ true → Lone K Page (map viewPage s)
+        → Lone K Page (viewPageBy b p ∷ map viewPage s)
+    go true n ih = (none-given (find K Page (p .key) (map viewPage s)) (page-any (p .key) s ∙ not-false (any (isPageOf (p .key)) s) n), ih)
     go false n ih = ih
 
 places-lone : (s : List Place) → apart samePlaces s ≡ true → Lone K (Option Table) (map viewPlace s)
@@ -48,8 +48,10 @@ unfolding apart Lone
 places-lone [] h = tt
 places-lone (p ∷ s) h = go (isUsed (p .state)) (both (not (any (samePlaces p) s)) (apart samePlaces s) h .0) (places-lone s (both (not (any (samePlaces p) s)) (apart samePlaces s) h .1))
   where
-    go : (b : Bool) → not (any (λ q. b && isPlaceOf (placeKey p) q) s) ≡ true → Lone K (Option Table) (map viewPlace s) → Lone K (Option Table) (viewPlaceBy b p ∷ map viewPlace s)
-    go true n ih = (none-given (find K (Option Table) (placeKey p) (map viewPlace s)) (place-any (placeKey p) s ∙ not-false (any (isPlaceOf (placeKey p)) s) n), ih)
+    go : (b : Bool) → not (any (λ q. b && isPlaceOf (p .key) q) s) ≡ true → Lone K (Option Table) (map viewPlace s)
+        → Lone K (Option Table) (viewPlaceBy b p ∷ map viewPlace s)
+    go true n ih =
+        (none-given (find K (Option Table) (p .key) (map viewPlace s)) (place-any (p .key) s ∙ not-false (any (isPlaceOf (p .key)) s) n), ih)
     go false n ih = ih
 
 any-never : {A : Type 0} (s : List A) → any (λ q. false) s ≡ false
@@ -62,8 +64,9 @@ unfolding apart Lone
 lone-pages [] h = refl
 lone-pages (p ∷ s) h = go (isUsed (p .state)) h (lone-pages s)
   where
-    go : (b : Bool) → Lone K Page (viewPageBy b p ∷ map viewPage s) → (Lone K Page (map viewPage s) → apart samePages s ≡ true) → (not (any (λ q. b && isPageOf (pageKey p) q) s) && apart samePages s) ≡ true
-    go true h ih = rw (← page-any (pageKey p) s, h .0) (ih (h .1))
+    go : (b : Bool) → Lone K Page (viewPageBy b p ∷ map viewPage s) → (Lone K Page (map viewPage s) → apart samePages s ≡ true)
+        → (not (any (λ q. b && isPageOf (p .key) q) s) && apart samePages s) ≡ true
+    go true h ih = rw (← page-any (p .key) s, h .0) (ih (h .1))
     go false h ih = rw (any-never s) (ih h)
 
 lone-places : (s : List Place) → Lone K (Option Table) (map viewPlace s) → apart samePlaces s ≡ true
@@ -71,8 +74,10 @@ unfolding apart Lone
 lone-places [] h = refl
 lone-places (p ∷ s) h = go (isUsed (p .state)) h (lone-places s)
   where
-    go : (b : Bool) → Lone K (Option Table) (viewPlaceBy b p ∷ map viewPlace s) → (Lone K (Option Table) (map viewPlace s) → apart samePlaces s ≡ true) → (not (any (λ q. b && isPlaceOf (placeKey p) q) s) && apart samePlaces s) ≡ true
-    go true h ih = rw (← place-any (placeKey p) s, h .0) (ih (h .1))
+    go : (b : Bool) → Lone K (Option Table) (viewPlaceBy b p ∷ map viewPlace s)
+        → (Lone K (Option Table) (map viewPlace s) → apart samePlaces s ≡ true)
+        → (not (any (λ q. b && isPlaceOf (p .key) q) s) && apart samePlaces s) ≡ true
+    go true h ih = rw (← place-any (p .key) s, h .0) (ih (h .1))
     go false h ih = rw (any-never s) (ih h)
 
 -- ---- what holds of the key of each element that passes u holds of each key under which one is found
@@ -106,7 +111,7 @@ abbrev isReserved : Place → Bool
 isReserved q = eqb (q .state) 1
 
 abbrev isReservedOf : Key → Place → Bool
-isReservedOf k q = isReserved q && sameKey (placeKey q) k
+isReservedOf k q = isReserved q && sameKey (q .key) k
 
 pick-some-any : {A : Type 0} (t u : A → Bool) (s : List A) (a : A) → pick t s ≡ some a → u a ≡ true → any u s ≡ true
 unfolding pick any
@@ -126,7 +131,7 @@ state-one (suc (suc (suc n))) u l h = absurd (omega (arith, leb-true (suc (suc (
 
 state-few : (q : Place) → lawfulPlace q ≡ true → isUsed (q .state) ≡ true → leb (q .state) 2 ≡ true
 unfolding lawfulPlace
-state-few q h u = both (leb (q .state) 2) (lawfulKey (q .school) (q .class) && cond (eqb (q .state) 2) (lawfulTable (q .table .entries)) (isZero (q .table .entries))) (rw u at h) .0
+state-few q h u = both _ _ (rw u at h) .0
 
 -- found under the key, without a learned table
 find-reserved : (k : Key) (s : List Place) → all lawfulPlace s ≡ true → find K (Option Table) k (map viewPlace s) ≡ some none → any (isReservedOf k) s ≡ true
@@ -140,31 +145,36 @@ find-reserved k s h e = go (pick (isPlaceOf k) s) refl (sym (place-read k s) ∙
     go none f m = no-way (ap given (sym m))
     go (some q) f m =
         let i : learnedBy (isLearned (q .state)) q ≡ none = cc in
-        let p = both (isUsed (q .state)) (sameKey (placeKey q) k) (pick-passes (isPlaceOf k) s q f) in
+        let p = both (isUsed (q .state)) (sameKey (q .key) k) (pick-passes (isPlaceOf k) s q f) in
         pick-some-any (isPlaceOf k) (isReservedOf k) s q f
-        (and-true (isReserved q) (sameKey (placeKey q) k) (state-one (q .state) (p .0) (learned-not (isLearned (q .state)) q i) (state-few q (pick-all lawfulPlace (isPlaceOf k) s q h f) (p .0))) (p .1))
+        (and-true (isReserved q) (sameKey (q .key) k)
+        (state-one (q .state) (p .0) (learned-not (isLearned (q .state)) q i) (state-few q (pick-all lawfulPlace (isPlaceOf k) s q h f) (p .0)))
+        (p .1))
 
 reserved-find : (k : Key) (s : List Place) → Lone K (Option Table) (map viewPlace s) → any (isReservedOf k) s ≡ true → find K (Option Table) k (map viewPlace s) ≡ some none
 unfolding find any Lone
 reserved-find k [] l h = no-way (sym h)
 reserved-find k (q ∷ s) l h = go (isUsed (q .state)) refl l (reserved-find k s)
   where
-    unused : (b : Bool) → eqb (q .state) 1 ≡ b → isUsed (q .state) ≡ false → ((b && sameKey (placeKey q) k) || any (isReservedOf k) s) ≡ true → any (isReservedOf k) s ≡ true
+    unused : (b : Bool) → eqb (q .state) 1 ≡ b → isUsed (q .state) ≡ false → ((b && sameKey (q .key) k) || any (isReservedOf k) s) ≡ true
+        → any (isReservedOf k) s ≡ true
     unused true e f h = no-way (rw (eqb-true (q .state) 1 e) at f)
     unused false e f h = h
 
-    inner : (c : Bool) → sameKey (placeKey q) k ≡ c → (b : Bool) → eqb (q .state) 1 ≡ b → find K (Option Table) (placeKey q) (map viewPlace s) ≡ none → (any (isReservedOf k) s ≡ true → find K (Option Table) k (map viewPlace s) ≡ some none)
+    inner : (c : Bool) → sameKey (q .key) k ≡ c → (b : Bool) → eqb (q .state) 1 ≡ b → find K (Option Table) (q .key) (map viewPlace s) ≡ none
+        → (any (isReservedOf k) s ≡ true → find K (Option Table) k (map viewPlace s) ≡ some none)
         → ((b && c) || any (isReservedOf k) s) ≡ true → cond c (some (learnedIn q)) (find K (Option Table) k (map viewPlace s)) ≡ some none
     inner true i true e n ih h = rw (eqb-true (q .state) 1 e)
     inner true i false e n ih h =
-        let z : find K (Option Table) k (map viewPlace s) ≡ none = subst (λ (j : Key). find K (Option Table) j (map viewPlace s) ≡ none) (key-only (placeKey q) k i) n in
+        let z : find K (Option Table) k (map viewPlace s) ≡ none
+        = subst (λ (j : Key). find K (Option Table) j (map viewPlace s) ≡ none) (key-only (q .key) k i) n in
         no-way (ap given (sym (ih h) ∙ z))
     inner false i true e n ih h = ih h
     inner false i false e n ih h = ih h
 
     go : (b : Bool) → isUsed (q .state) ≡ b → Lone K (Option Table) (viewPlaceBy b q ∷ map viewPlace s) → (Lone K (Option Table) (map viewPlace s) → any (isReservedOf k) s ≡ true → find K (Option Table) k (map viewPlace s) ≡ some none)
         → find K (Option Table) k (viewPlaceBy b q ∷ map viewPlace s) ≡ some none
-    go true f l ih = inner (sameKey (placeKey q) k) refl (eqb (q .state) 1) refl (l .0) (ih (l .1)) h
+    go true f l ih = inner (sameKey (q .key) k) refl (eqb (q .state) 1) refl (l .0) (ih (l .1)) h
     go false f l ih = ih l (unused (eqb (q .state) 1) refl f h)
 
 -- ---- there and back
@@ -201,8 +211,12 @@ lawful-sound d h =
           record {
             fits =
                 λ j. fits-by (find K (Option Table) j (map viewPlace (d .places))) (find K Page j (map viewPage (d .pages)))
-                (λ g. place-any j (d .places) ∙ each-key (λ (p : Page). isUsed (p .state)) pageKey (λ k. any (isPlaceOf k) (d .places)) (d .pages) (p5 .0) j (sym (page-any j (d .pages)) ∙ g))
-                (λ e. page-any j (d .pages) ∙ each-key isReserved placeKey (λ k. any (isPageOf k) (d .pages)) (d .places) (p5 .1) j (find-reserved j (d .places) (p2 .1) e));
+                (λ g. place-any j (d .places)
+                ∙ each-key (λ (p : Page). isUsed (p .state)) (λ (p : Page). p .key) (λ k. any (isPlaceOf k) (d .places)) (d .pages) (p5 .0) j
+                (sym (page-any j (d .pages)) ∙ g))
+                (λ e. page-any j (d .pages)
+                ∙ each-key isReserved (λ (q : Place). q .key) (λ k. any (isPageOf k) (d .pages)) (d .places) (p5 .1) j
+                (find-reserved j (d .places) (p2 .1) e));
             lone-pages = pages-lone (d .pages) (p4 .0);
             lone-places = places-lone (d .places) (p4 .1);
           };
@@ -216,7 +230,7 @@ sound-lawful d s =
     (and-true (apart samePages (d .pages) && apart samePlaces (d .places)) (all (pageHasPlace (d .places)) (d .pages) && all (placeHasPage (d .pages)) (d .places))
     (and-true (apart samePages (d .pages)) (apart samePlaces (d .places)) (lone-pages (d .pages) (s .fitting .lone-pages)) (lone-places (d .places) (s .fitting .lone-places)))
     (and-true (all (pageHasPlace (d .places)) (d .pages)) (all (placeHasPage (d .pages)) (d .places))
-    (key-each (λ (p : Page). isUsed (p .state)) pageKey (λ k. any (isPlaceOf k) (d .places)) (d .pages)
+    (key-each (λ (p : Page). isUsed (p .state)) (λ (p : Page). p .key) (λ k. any (isPlaceOf k) (d .places)) (d .pages)
     (λ j e. sym (place-any j (d .places)) ∙ page-placed (find K (Option Table) j (map viewPlace (d .places))) (find K Page j (map viewPage (d .pages))) (s .fitting .fits j) (page-any j (d .pages) ∙ e)))
-    (key-each isReserved placeKey (λ k. any (isPageOf k) (d .pages)) (d .places)
+    (key-each isReserved (λ (q : Place). q .key) (λ k. any (isPageOf k) (d .pages)) (d .places)
     (λ j e. sym (page-any j (d .pages)) ∙ reserved-paged (find K (Option Table) j (map viewPlace (d .places))) (find K Page j (map viewPage (d .pages))) (s .fitting .fits j) (reserved-find j (d .places) (s .fitting .lone-places) e)))))

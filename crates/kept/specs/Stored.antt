@@ -11,15 +11,14 @@ use Rattle.turns.specs.Shelves.{placeOf, cellAt, slotStore, noSlot, noClassPlac
 use Rattle.estimate.specs.declared.Table.{Table}
 use Rattle.band.specs.Band.{white}
 use Rattle.desk.specs.declared.Key.{Key}
-use Rattle.desk.specs.declared.Page.{Page}
-use Rattle.desk.specs.declared.Place.{Place}
-use Rattle.desk.specs.declared.Desk.{Desk}
-use Rattle.desk.specs.Places.{zeroTable, unusedPage, freePlace, isPageOf, isPlaceOf, isTableOf, isFreePage, isFreePlace, pageFound, placeFound, tableFound, freePageFound, freePlaceFound, isFound}
+use Rattle.desk.specs.Desk.{Page, Place, Desk}
+use Rattle.desk.specs.Places.{zeroTable, unusedPage, freePlace, sameKey, isPageOf, isPlaceOf, isTableOf, isFreePage, isFreePlace}
+use Rattle.desk.specs.Places.{pageFound, placeFound, tableFound, freePageFound, freePlaceFound, isFound}
 use Rattle.desk.specs.Lawful.{all, lawfulKey, lawfulTable, lawfulPage, lawfulPlace}
 use Rattle.desk.specs.Effects.{Change, stays, gone, becomes, afterwards}
 use Rattle.desk.specs.Changes.{learnedPlace, reservedPlace, setAt, orFree, pagesAfter, placesAfter, changed}
 use Rattle.kept.specs.Lists.{set-found, all-first}
-use Rattle.kept.specs.View.{sameKey, K, viewPage, viewPlace, Shelf, shelves}
+use Rattle.kept.specs.View.{K, viewPage, viewPlace, Shelf, shelves}
 use Rattle.kept.specs.Sound.{Sound}
 use Rattle.kept.specs.Cells.{cellOf, page-found, table-found}
 use Rattle.kept.specs.Changes.{Places, page-gone, page-changed, page-taken, page-kept, place-freed, place-changed, place-taken, place-kept, table-freed, store-by, place-given, paged, learned-same, open-same}
@@ -83,16 +82,16 @@ free-lawful : lawfulPlace freePlace ≡ true
 unfolding lawfulPlace freePlace zeroTable all
 free-lawful = refl
 
-learned-lawful : (k : Key) (t : Table) → lawfulKey (k .school) (k .class) ≡ true → lawfulTable (t .entries) ≡ true → lawfulPlace (learnedPlace k t)
+learned-lawful : (k : Key) (t : Table) → lawfulKey k ≡ true → lawfulTable (t .entries) ≡ true → lawfulPlace (learnedPlace k t)
     ≡ true
 unfolding lawfulPlace learnedPlace
 learned-lawful k t h l = rw (h, l)
 
-reserved-lawful : (k : Key) → lawfulKey (k .school) (k .class) ≡ true → lawfulPlace (reservedPlace k) ≡ true
+reserved-lawful : (k : Key) → lawfulKey k ≡ true → lawfulPlace (reservedPlace k) ≡ true
 unfolding lawfulPlace reservedPlace zeroTable all
 reserved-lawful k h = rw h
 
-module _ (d : Desk) (s : Sound d) (k : Key) (known : lawfulKey (k .school) (k .class) ≡ true) where
+module _ (d : Desk) (s : Sound d) (k : Key) (known : lawfulKey k ≡ true) where
   abbrev x : Cell Table Page
   x = cellOf d k
 

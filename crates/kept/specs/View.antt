@@ -5,7 +5,7 @@ use mathlib.Core.List.{List, [], _∷_, map}
 use mathlib.Core.Option.{Option, some, none}
 use Prim.Native.Nat.{ℕ}
 use lib.Dec.{eqb}
-use borrow.Author.Tests.{eqb-true, eq-eqb}
+use borrow.Author.Tests.{eqb-true}
 use Rattle.ground.specs.Options.{given, mapped}
 use Rattle.turns.specs.Service.{Keys}
 use Rattle.turns.specs.Slots.{Named, named, find, free, Lone}
@@ -13,40 +13,19 @@ use Rattle.turns.specs.Rows.{atFirst, map-first, hasName, isFree}
 use Rattle.turns.specs.Shelves.{join, Shelves}
 use Rattle.estimate.specs.declared.Table.{Table}
 use Rattle.desk.specs.declared.Key.{Key}
-use Rattle.desk.specs.declared.Page.{Page}
-use Rattle.desk.specs.declared.Place.{Place}
-use Rattle.desk.specs.declared.Desk.{Desk}
-use Rattle.desk.specs.Places.{isUsed, isLearned, isPageOf, isPlaceOf, isTableOf, isFreePage, isFreePlace}
+use Rattle.desk.specs.Desk.{Page, Place, Desk}
+use Rattle.desk.specs.Places.{isUsed, isLearned, sameKey, isPageOf, isPlaceOf, isTableOf, isFreePage, isFreePlace}
+use Rattle.desk.specs.OpenPages.{key-self, key-only}
 use Rattle.kept.specs.Lists.{pick}
-use Rattle.ground.specs.Bools.{no-way, both}
+use Rattle.ground.specs.Bools.{no-way}
 
 -- ---- keys: the school and the class
-abbrev pub sameKey : Key → Key → Bool
-sameKey j k = eqb (j .school) (k .school) && eqb (j .class) (k .class)
-
-self : (n : ℕ) → eqb n n ≡ true
-self n = eq-eqb n n refl
-
-pub key-self : (k : Key) → sameKey k k ≡ true
-key-self k = simp self
-
-pub key-only : (j k : Key) → sameKey j k ≡ true → j ≡ k
-key-only j k h =
-    let p = both (eqb (j .school) (k .school)) (eqb (j .class) (k .class)) h in
-    λ i. record { school = eqb-true (j .school) (k .school) (p .0) i; class = eqb-true (j .class) (k .class) (p .1) i }
-
 abbrev pub K : Keys
 K = record { Key = Key; same = sameKey; same-self = key-self; same-only = key-only }
 
-abbrev pub pageKey : Page → Key
-pageKey p = record { school = p .school; class = p .class }
-
-abbrev pub placeKey : Place → Key
-placeKey q = record { school = q .school; class = q .class }
-
 -- ---- a page is a slot with the page itself; a place holds its learned table, or is only reserved
 abbrev pub viewPageBy : Bool → Page → Option (Named K Page)
-viewPageBy true p = named K Page (pageKey p) p
+viewPageBy true p = named K Page (p .key) p
 viewPageBy false p = none
 
 abbrev pub viewPage : Page → Option (Named K Page)
@@ -60,7 +39,7 @@ abbrev pub learnedIn : Place → Option Table
 learnedIn q = learnedBy (isLearned (q .state)) q
 
 abbrev pub viewPlaceBy : Bool → Place → Option (Named K (Option Table))
-viewPlaceBy true q = named K (Option Table) (placeKey q) (learnedIn q)
+viewPlaceBy true q = named K (Option Table) (q .key) (learnedIn q)
 viewPlaceBy false q = none
 
 abbrev pub viewPlace : Place → Option (Named K (Option Table))
@@ -82,14 +61,14 @@ namePlace k q = hasName K (Option Table) k (viewPlace q)
 page-test : (k : Key) (p : Page) → namePage k p ≡ isPageOf k p
 page-test k p = go (isUsed (p .state))
   where
-    go : (b : Bool) → hasName K Page k (viewPageBy b p) ≡ (b && sameKey (pageKey p) k)
+    go : (b : Bool) → hasName K Page k (viewPageBy b p) ≡ (b && sameKey (p .key) k)
     go true = refl
     go false = refl
 
 place-test : (k : Key) (q : Place) → namePlace k q ≡ isPlaceOf k q
 place-test k q = go (isUsed (q .state))
   where
-    go : (b : Bool) → hasName K (Option Table) k (viewPlaceBy b q) ≡ (b && sameKey (placeKey q) k)
+    go : (b : Bool) → hasName K (Option Table) k (viewPlaceBy b q) ≡ (b && sameKey (q .key) k)
     go true = refl
     go false = refl
 
@@ -113,8 +92,9 @@ unfolding find pick
 page-read k [] = refl
 page-read k (p ∷ s) = go (isUsed (p .state)) (page-read k s)
   where
-    go : (b : Bool) → find K Page k (map viewPage s) ≡ pick (isPageOf k) s → find K Page k (viewPageBy b p ∷ map viewPage s) ≡ cond (b && sameKey (pageKey p) k) (some p) (pick (isPageOf k) s)
-    go true ih = ap (cond (sameKey (pageKey p) k) (some p)) ih
+    go : (b : Bool) → find K Page k (map viewPage s) ≡ pick (isPageOf k) s
+        → find K Page k (viewPageBy b p ∷ map viewPage s) ≡ cond (b && sameKey (p .key) k) (some p) (pick (isPageOf k) s)
+    go true ih = ap (cond (sameKey (p .key) k) (some p)) ih
     go false ih = ih
 
 pub place-read : (k : Key) (s : List Place) → find K (Option Table) k (map viewPlace s) ≡ mapped learnedIn (pick (isPlaceOf k) s)
@@ -128,8 +108,9 @@ place-read k (q ∷ s) = go (isUsed (q .state)) (place-read k s)
     inner false ih = ih
 
     go : (b : Bool) → find K (Option Table) k (map viewPlace s) ≡ mapped learnedIn (pick (isPlaceOf k) s)
-        → find K (Option Table) k (viewPlaceBy b q ∷ map viewPlace s) ≡ mapped learnedIn (cond (b && sameKey (placeKey q) k) (some q) (pick (isPlaceOf k) s))
-    go true ih = inner (sameKey (placeKey q) k) ih
+        → find K (Option Table) k (viewPlaceBy b q ∷ map viewPlace s)
+        ≡ mapped learnedIn (cond (b && sameKey (q .key) k) (some q) (pick (isPlaceOf k) s))
+    go true ih = inner (sameKey (q .key) k) ih
     go false ih = ih
 
 -- ---- a change at the first that passes, seen as slots
@@ -171,7 +152,7 @@ learned-used n h = rw (eqb-true n 2 h)
 no-place-no-table : (k : Key) (s : List Place) → pick (isPlaceOf k) s ≡ none → pick (isTableOf k) s ≡ none
 unfolding pick
 no-place-no-table k [] h = refl
-no-place-no-table k (q ∷ s) h = go (isUsed (q .state)) (isLearned (q .state)) (sameKey (placeKey q) k) (learned-used (q .state)) h (no-place-no-table k s)
+no-place-no-table k (q ∷ s) h = go (isUsed (q .state)) (isLearned (q .state)) (sameKey (q .key) k) (learned-used (q .state)) h (no-place-no-table k s)
   where
     go : (u l e : Bool) → (l ≡ true → u ≡ true) → cond (u && e) (some q) (pick (isPlaceOf k) s) ≡ none → (pick (isPlaceOf k) s ≡ none → pick (isTableOf k) s ≡ none)
         → cond (l && e) (some q) (pick (isTableOf k) s) ≡ none
@@ -193,9 +174,10 @@ record TableFirst (k : Key) (s : List Place) : Type 0 where
 -- one place more: used or not, learned or not
 abbrev TableStep : Key → Place → List Place → Bool → Bool → Type 0
 TableStep k q s u l =
-    (join (find K (Option Table) k (viewPlaceBy u q ∷ map viewPlace s)) ≡ mapped (λ (q : Place). q .table) (cond (l && sameKey (placeKey q) k) (some q) (pick (isTableOf k) s)))
-    × ((a : Place) → given (cond (l && sameKey (placeKey q) k) (some q) (pick (isTableOf k) s)) ≡ true
-    → cond (l && sameKey (placeKey q) k) (a ∷ s) (q ∷ atFirst (isTableOf k) a s) ≡ cond (u && sameKey (placeKey q) k) (a ∷ s) (q ∷ atFirst (isPlaceOf k) a s))
+    (join (find K (Option Table) k (viewPlaceBy u q ∷ map viewPlace s))
+    ≡ mapped (λ (q : Place). q .table) (cond (l && sameKey (q .key) k) (some q) (pick (isTableOf k) s)))
+    × ((a : Place) → given (cond (l && sameKey (q .key) k) (some q) (pick (isTableOf k) s)) ≡ true
+    → cond (l && sameKey (q .key) k) (a ∷ s) (q ∷ atFirst (isTableOf k) a s) ≡ cond (u && sameKey (q .key) k) (a ∷ s) (q ∷ atFirst (isPlaceOf k) a s))
 
 table-both : (k : Key) (s : List Place) → Lone K (Option Table) (map viewPlace s) → TableFirst k s
 unfolding find pick atFirst Lone
@@ -204,12 +186,14 @@ table-both k (q ∷ s) h =
     let r : TableStep k q s (isUsed (q .state)) (isLearned (q .state)) = go (isUsed (q .state)) refl h (λ l. table-both k s l) in
     record { read = r .0; first = r .1 }
   where
-    same-key : (l e : Bool) → sameKey (placeKey q) k ≡ e → find K (Option Table) (placeKey q) (map viewPlace s) ≡ none → TableFirst k s
+    same-key : (l e : Bool) → sameKey (q .key) k ≡ e → find K (Option Table) (q .key) (map viewPlace s) ≡ none → TableFirst k s
         → (join (cond e (some (learnedBy l q)) (find K (Option Table) k (map viewPlace s))) ≡ mapped (λ (q : Place). q .table) (cond (l && e) (some q) (pick (isTableOf k) s)))
         × ((a : Place) → given (cond (l && e) (some q) (pick (isTableOf k) s)) ≡ true → cond (l && e) (a ∷ s) (q ∷ atFirst (isTableOf k) a s) ≡ cond e (a ∷ s) (q ∷ atFirst (isPlaceOf k) a s))
     same-key true true j n r = (refl, (λ a g. refl))
     same-key false true j n r =
-        let m : pick (isTableOf k) s ≡ none = no-place-no-table k s (nothing-mapped learnedIn (pick (isPlaceOf k) s) (sym (place-read k s) ∙ subst (λ (j : Key). find K (Option Table) j (map viewPlace s) ≡ none) (key-only (placeKey q) k j) n)) in
+        let m : pick (isTableOf k) s ≡ none
+        = no-place-no-table k s (nothing-mapped learnedIn (pick (isPlaceOf k) s)
+        (sym (place-read k s) ∙ subst (λ (j : Key). find K (Option Table) j (map viewPlace s) ≡ none) (key-only (q .key) k j) n)) in
         (rw m, (λ a g. no-way (sym g ∙ ap given m)))
     same-key true false j n r = (r .read, (λ a g. ap (λ (t : List Place). q ∷ t) (r .first a g)))
     same-key false false j n r = (r .read, (λ a g. ap (λ (t : List Place). q ∷ t) (r .first a g)))
@@ -219,7 +203,7 @@ table-both k (q ∷ s) h =
     unused false i f r = (r .read, (λ a g. ap (λ (t : List Place). q ∷ t) (r .first a g)))
 
     go : (u : Bool) → isUsed (q .state) ≡ u → Lone K (Option Table) (viewPlaceBy u q ∷ map viewPlace s) → (Lone K (Option Table) (map viewPlace s) → TableFirst k s) → TableStep k q s u (isLearned (q .state))
-    go true f h ih = same-key (isLearned (q .state)) (sameKey (placeKey q) k) refl (h .0) (ih (h .1))
+    go true f h ih = same-key (isLearned (q .state)) (sameKey (q .key) k) refl (h .0) (ih (h .1))
     go false f h ih = unused (isLearned (q .state)) refl f (ih h)
 
 pub table-read : (k : Key) (s : List Place) → Lone K (Option Table) (map viewPlace s) → join (find K (Option Table) k (map viewPlace s)) ≡ mapped (λ (q : Place). q .table) (pick (isTableOf k) s)

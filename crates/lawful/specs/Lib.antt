@@ -1,3 +1,3 @@
 pub mod Loops
-pub mod Parts
-pub mod Early
+pub mod Highest
+pub mod Each

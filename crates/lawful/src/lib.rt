@@ -1,263 +1,180 @@
-// Whether a desk is lawful: each test of document 01, in the definition's order.
+// Whether a desk is lawful. Every byte of its arrays is looked at, with no early exit, so that the loop is made of vector instructions.
 ghost use mathlib.Core.Path.{_≡_};
 ghost use Prim.Native.Nat.{_+_, _*_, _≤_, _<_};
-ghost use mathlib.Core.Bool.{not, _||_};
-ghost use lib.Dec.{eqb};
 ghost use lib.ListN.{length, getD, drop};
-ghost use Rattle.desk.specs.Places.{isUsed, isPageOf, isPlaceOf, noPage, noPlace};
-ghost use Rattle.desk.specs.Lawful.{within, all, any, apart, lawfulKey, lawfulTable, isZero, noStray, lawfulPage, lawfulPlace, samePages, samePlaces, pageHasPlace, placeHasPage, lawful};
-ghost use Rattle.lawful.specs.Early.{early};
-ghost use Rattle.lawful.specs.Parts.{openRight, unusedRight, freeRight};
-use desk::Desk;
+ghost use Rattle.limits.specs.Limits.{maxWidth, maxPages, maxPlaces, lastBytes};
+ghost use Rattle.desk.specs.Parts.{asPage, asPlace, pagesOf, placesOf, partsOf, deskOf, Sized, Whole};
+ghost use Rattle.desk.specs.Lines.{noPageLine, noPlaceLine};
+ghost use Rattle.desk.specs.Lawful.{within, lawfulKey, noStray, lawfulPage, lawfulPlace, lawful};
+ghost use Rattle.lawful.specs.Highest.{higher, highestFrom, low, topEntry};
+ghost use Rattle.lawful.specs.Loops.{each};
+ghost use Rattle.lawful.specs.Each.{openRight, unusedRight, pageKnown, placeKnown, pageRight, placeRight, hasPage, hasPlace};
+use desk::Book;
 use desk::Key;
-use desk::Page;
-use desk::Place;
+use desk::PageLine;
+use desk::PlaceLine;
+use desk::Sought;
+use limits::CONTEXTS;
+use limits::MAX_KEY;
+use limits::MAX_WIDTH;
+use limits::PAGES;
+use limits::PLACES;
+use limits::ROW;
+
+// 2 × 29 + 1: the highest entry of a table.
+const MAX_ENTRY: u8 = 59;
 
 // A number from 1 to a limit.
 pub fn in_range(n: u64, high: u64) -> bool
     ensures { λ r. ⌜ r ≡ within 1 n high ⌝ }
 {
-    if 1 <= n {
-        return n <= high;
-    }
-    false
+    (1 <= n) & (n <= high)
 }
 
-// Each number 1 to 65,535.
-pub fn lawful_key(school: u64, class: u64) -> bool
-    ensures { λ r. ⌜ r ≡ lawfulKey school class ⌝ }
+// Each number 1 to the limit.
+pub fn lawful_key(key: Key) -> bool
+    ensures { λ r. ⌜ r ≡ lawfulKey key ⌝ }
 {
-    if in_range(school, 65535) {
-        return in_range(class, 65535);
-    }
-    false
+    in_range(key.school, MAX_KEY) & in_range(key.class, MAX_KEY)
 }
 
-// Every byte from that place on is zero.
-fn zero_from(xs: &[u8], from: usize) -> bool
-    ensures { λ r. ⌜ r ≡ isZero (drop from (now (xs .entry))) ⌝ }
+// The higher of two.
+fn higher(h: u8, x: u8) -> u8
+    ensures { λ r. ⌜ r ≡ higher h x ⌝ }
 {
-    let mut i = from;
-    while i < xs.len() {
-        if xs[i] != 0 {
-            return false;
-        }
-        i += 1;
+    if h < x {
+        return x;
     }
-    true
+    h
 }
 
-// Every index is at most 29.
-fn low_indexes(entries: &[u8]) -> bool
-    ensures { λ r. ⌜ r ≡ lawfulTable (now (entries .entry)) ⌝ }
+// The highest byte.
+fn highest(xs: &[u8]) -> u8
+    ensures { λ r. ⌜ r ≡ highestFrom 0 (now (xs .entry)) ⌝ }
 {
+    let mut top: u8 = 0;
     let mut i: usize = 0;
-    while i < entries.len() {
-        if entries[i] / 2 > 29 {
-            return false;
-        }
+    while i < xs.len() {
+        top = higher(top, xs[i]);
         i += 1;
     }
-    true
+    top
+}
+
+// Every byte is at most n.
+fn is_low(xs: &[u8], n: u8) -> bool
+    ensures { λ r. ⌜ r ≡ low n (now (xs .entry)) ⌝ }
+{
+    highest(xs) <= n
 }
 
 // Neither a padding bit nor a byte after the row is set.
 fn no_stray(last: &[u8], width: usize) -> bool
-    requires { ⌜ (1 ≤ width) × (width ≤ 65535) × (width ≤ 8 * length (now last)) ⌝ }
+    requires { ⌜ (1 ≤ width) × (width ≤ maxWidth) × (width ≤ 8 * length (now last)) ⌝ }
     ensures { λ r. ⌜ r ≡ noStray width (now (last .entry)) ⌝ }
 {
     let n = template::row_bytes(width);
-    if !template::row_padded(&last[0..n], width) {
-        return false;
-    }
-    zero_from(last, n)
+    template::row_padded(&last[0..n], width) & is_low(&last[n..last.len()], 0)
 }
 
-// An open page: its key, width, indexes and last row.
-fn open_right(p: Page) -> bool
-    ensures { λ r. ⌜ r ≡ openRight p ⌝ }
+// An open page: its state, key, width, indexes and last row.
+fn open_right(p: PageLine, table: &[u8], last: &[u8]) -> bool
+    requires { ⌜ length (now last) ≡ lastBytes ⌝ }
+    ensures { λ r. ⌜ r ≡ openRight (asPage p (now (table .entry)) (now (last .entry))) ⌝ }
 {
-    if p.state > 2 {
+    if !in_range(p.width, MAX_WIDTH) {
         return false;
     }
-    if !lawful_key(p.school, p.class) {
-        return false;
-    }
-    if !in_range(p.width, 2048) {
-        return false;
-    }
-    let entries = p.table.entries;
-    if !low_indexes(&entries) {
-        return false;
-    }
-    let last = p.last;
-    no_stray(&last, p.width as usize)
+    (p.state <= 2)
+        & (lawful_key(p.key) & (is_low(table, MAX_ENTRY) & no_stray(last, p.width as usize)))
 }
 
 // An unused page is zero.
-fn unused_right(p: Page) -> bool
-    ensures { λ r. ⌜ r ≡ unusedRight p ⌝ }
+fn unused_right(p: PageLine, table: &[u8], last: &[u8]) -> bool
+    ensures { λ r. ⌜ r ≡ unusedRight (asPage p (now (table .entry)) (now (last .entry))) ⌝ }
 {
-    if p.school != 0 {
-        return false;
-    }
-    if p.class != 0 {
-        return false;
-    }
-    if p.width != 0 {
-        return false;
-    }
-    let entries = p.table.entries;
-    if !zero_from(&entries, 0) {
-        return false;
-    }
-    let last = p.last;
-    zero_from(&last, 0)
+    desk::same_key(p.key, desk::no_key()) & ((p.width == 0) & (is_low(table, 0) & is_low(last, 0)))
 }
 
 // By whether it is open.
-fn lawful_page(p: Page) -> bool
-    ensures { λ r. ⌜ r ≡ lawfulPage p ⌝ }
+fn lawful_page(p: PageLine, table: &[u8], last: &[u8]) -> bool
+    requires { ⌜ length (now last) ≡ lastBytes ⌝ }
+    ensures { λ r. ⌜ r ≡ lawfulPage (asPage p (now (table .entry)) (now (last .entry))) ⌝ }
 {
     if p.state == 0 {
-        return unused_right(p);
+        return unused_right(p, table, last);
     }
-    open_right(p)
+    open_right(p, table, last)
 }
 
-// A free place is zero.
-fn free_right(q: Place) -> bool
-    ensures { λ r. ⌜ r ≡ freeRight q ⌝ }
+// The highest entry that a place of that state may have: a reserved place's table, and a free one's, are zero.
+fn top_entry(state: u64) -> u8
+    ensures { λ r. ⌜ r ≡ topEntry state ⌝ }
 {
-    if q.school != 0 {
-        return false;
+    if state == 2 {
+        return MAX_ENTRY;
     }
-    if q.class != 0 {
-        return false;
-    }
-    let entries = q.table.entries;
-    zero_from(&entries, 0)
+    0
 }
 
-// A used place has a lawful key; its table is learned and lawful, or zero.
-fn lawful_place(q: Place) -> bool
-    ensures { λ r. ⌜ r ≡ lawfulPlace q ⌝ }
+// A used place has a lawful key, a free one none; its table is learned and lawful, or zero.
+fn lawful_place(q: PlaceLine, table: &[u8]) -> bool
+    ensures { λ r. ⌜ r ≡ lawfulPlace (asPlace q (now (table .entry))) ⌝ }
 {
+    let low = is_low(table, top_entry(q.state));
     if q.state == 0 {
-        return free_right(q);
+        return desk::same_key(q.key, desk::no_key()) & low;
     }
-    if q.state > 2 {
-        return false;
-    }
-    if !lawful_key(q.school, q.class) {
-        return false;
-    }
-    let table = q.table.entries;
-    if q.state == 2 {
-        return low_indexes(&table);
-    }
-    zero_from(&table, 0)
+    (q.state <= 2) & (lawful_key(q.key) & low)
 }
 
-// Whether the key has an open page from that slot on.
-fn has_page(pages: [Page; 4], from: usize, key: Key) -> bool
-    ensures { λ r. ⌜ r ≡ any (isPageOf key) (drop from pages) ⌝ }
+// Whether a page from that slot on is under the key.
+fn has_page(pages: [PageLine; PAGES], from: usize, key: Key) -> bool
+    ensures { λ r. ⌜ r ≡ hasPage (drop from pages) key ⌝ }
 {
-    let mut i = from;
-    while i < 4 {
-        let p = pages[i];
-        if desk::is_under(p.state, p.school, p.class, key) {
-            return true;
-        }
-        i += 1;
-    }
-    false
+    desk::is_found(desk::find_page(pages, from, Sought::Used(key)))
 }
 
-// Whether the key has a place from that one on.
-fn has_place(places: [Place; 8], from: usize, key: Key) -> bool
-    ensures { λ r. ⌜ r ≡ any (isPlaceOf key) (drop from places) ⌝ }
+// Whether a place from that one on is under the key.
+fn has_place(places: [PlaceLine; PLACES], from: usize, key: Key) -> bool
+    ensures { λ r. ⌜ r ≡ hasPlace (drop from places) key ⌝ }
 {
-    let mut i = from;
-    while i < 8 {
-        let q = places[i];
-        if desk::is_under(q.state, q.school, q.class, key) {
-            return true;
-        }
-        i += 1;
-    }
-    false
+    desk::is_found(desk::find_place(places, from, Sought::Used(key)))
 }
 
-// Every page passes.
-fn all_pages(pages: [Page; 4]) -> bool
-    ensures { λ r. ⌜ r ≡ all lawfulPage pages ⌝ }
-{
-    let mut i: usize = 0;
-    while i < 4 {
-        let p = pages[i];
-        if !lawful_page(p) {
-            return false;
-        }
-        i += 1;
-    }
-    true
-}
-
-// Every place passes.
-fn all_places(places: [Place; 8]) -> bool
-    ensures { λ r. ⌜ r ≡ all lawfulPlace places ⌝ }
-{
-    let mut i: usize = 0;
-    while i < 8 {
-        let q = places[i];
-        if !lawful_place(q) {
-            return false;
-        }
-        i += 1;
-    }
-    true
-}
-
-// Whether the page of that slot is open, and one after it under the same key.
-fn page_again(pages: [Page; 4], i: usize) -> bool
-    requires { ⌜ i < 4 ⌝ }
-    ensures { λ r. ⌜ r ≡ any (samePages (getD pages i noPage)) (drop (i + 1) pages) ⌝ }
+// An open page is alone under its key, and has its place.
+fn page_known(pages: [PageLine; PAGES], places: [PlaceLine; PLACES], i: usize) -> bool
+    requires { ⌜ i < maxPages ⌝ }
+    ensures { λ r. ⌜ r ≡ pageKnown places (getD pages i noPageLine) (drop (i + 1) pages) ⌝ }
 {
     let p = pages[i];
-    if p.state == 0 {
-        return false;
-    }
-    let key = Key {
-        school: p.school,
-        class: p.class,
-    };
-    has_page(pages, i + 1, key)
+    (p.state == 0) | (!has_page(pages, i + 1, p.key) & has_place(places, 0, p.key))
 }
 
-// Whether that place is used, and one after it under the same key.
-fn place_again(places: [Place; 8], i: usize) -> bool
-    requires { ⌜ i < 8 ⌝ }
-    ensures { λ r. ⌜ r ≡ any (samePlaces (getD places i noPlace)) (drop (i + 1) places) ⌝ }
+// A used place is alone under its key, and a reserved one has its page.
+fn place_known(pages: [PageLine; PAGES], places: [PlaceLine; PLACES], i: usize) -> bool
+    requires { ⌜ i < maxPlaces ⌝ }
+    ensures { λ r. ⌜ r ≡ placeKnown pages (getD places i noPlaceLine) (drop (i + 1) places) ⌝ }
 {
     let q = places[i];
-    if q.state == 0 {
-        return false;
-    }
-    let key = Key {
-        school: q.school,
-        class: q.class,
-    };
-    has_place(places, i + 1, key)
+    ((q.state == 0) | !has_place(places, i + 1, q.key))
+        & ((q.state != 1) | has_page(pages, 0, q.key))
 }
 
-// Open pages have different keys.
-fn pages_apart(pages: [Page; 4]) -> bool
-    ensures { λ r. ⌜ r ≡ apart samePages pages ⌝ }
+// Every page is right: in itself, and in the book.
+fn pages_right(
+    pages: [PageLine; PAGES],
+    places: [PlaceLine; PLACES],
+    working: &[[u8; CONTEXTS]; PAGES],
+    rows: &[[u8; ROW]; PAGES],
+) -> bool
+    requires { ⌜ (length (now working) ≡ maxPages) × (length (now rows) ≡ maxPages) ⌝ }
+    ensures { λ r. ⌜ (r ≡ each (pageRight places) (pagesOf pages (now (working .entry)) (now (rows .entry)))) × (length pages ≡ maxPages) ⌝ }
 {
     let mut i: usize = 0;
-    while i < 4 {
-        if page_again(pages, i) {
+    while i < PAGES {
+        let lawful = lawful_page(pages[i], &working[i], &rows[i]);
+        if !(lawful & page_known(pages, places, i)) {
             return false;
         }
         i += 1;
@@ -265,71 +182,19 @@ fn pages_apart(pages: [Page; 4]) -> bool
     true
 }
 
-// Used places have different keys.
-fn places_apart(places: [Place; 8]) -> bool
-    ensures { λ r. ⌜ r ≡ apart samePlaces places ⌝ }
+// Every place is right: in itself, and in the book.
+fn places_right(
+    pages: [PageLine; PAGES],
+    places: [PlaceLine; PLACES],
+    learned: &[[u8; CONTEXTS]; PLACES],
+) -> bool
+    requires { ⌜ length (now learned) ≡ maxPlaces ⌝ }
+    ensures { λ r. ⌜ (r ≡ each (placeRight pages) (placesOf places (now (learned .entry)))) × (length places ≡ maxPlaces) ⌝ }
 {
     let mut i: usize = 0;
-    while i < 8 {
-        if place_again(places, i) {
-            return false;
-        }
-        i += 1;
-    }
-    true
-}
-
-// An open page has its place.
-fn page_placed(state: u64, key: Key, places: [Place; 8]) -> bool
-    ensures { λ r. ⌜ r ≡ (not (isUsed state) || any (isPlaceOf key) places) ⌝ }
-{
-    if state == 0 {
-        return true;
-    }
-    has_place(places, 0, key)
-}
-
-// A reserved place has its page.
-fn place_paged(state: u64, key: Key, pages: [Page; 4]) -> bool
-    ensures { λ r. ⌜ r ≡ (not (eqb state 1) || any (isPageOf key) pages) ⌝ }
-{
-    if state != 1 {
-        return true;
-    }
-    has_page(pages, 0, key)
-}
-
-// Every open page has its place.
-fn pages_placed(pages: [Page; 4], places: [Place; 8]) -> bool
-    ensures { λ r. ⌜ r ≡ all (pageHasPlace places) pages ⌝ }
-{
-    let mut i: usize = 0;
-    while i < 4 {
-        let p = pages[i];
-        let key = Key {
-            school: p.school,
-            class: p.class,
-        };
-        if !page_placed(p.state, key, places) {
-            return false;
-        }
-        i += 1;
-    }
-    true
-}
-
-// Every reserved place has its page.
-fn places_paged(places: [Place; 8], pages: [Page; 4]) -> bool
-    ensures { λ r. ⌜ r ≡ all (placeHasPage pages) places ⌝ }
-{
-    let mut i: usize = 0;
-    while i < 8 {
-        let q = places[i];
-        let key = Key {
-            school: q.school,
-            class: q.class,
-        };
-        if !place_paged(q.state, key, pages) {
+    while i < PLACES {
+        let lawful = lawful_place(places[i], &learned[i]);
+        if !(lawful & place_known(pages, places, i)) {
             return false;
         }
         i += 1;
@@ -338,38 +203,17 @@ fn places_paged(places: [Place; 8], pages: [Page; 4]) -> bool
 }
 
 // Whether the desk is lawful.
-pub fn lawful_desk(d: Desk) -> bool
-    ensures { λ r. ⌜ r ≡ lawful d ⌝ }
+pub fn lawful_desk(
+    book: Book,
+    working: &[[u8; CONTEXTS]; PAGES],
+    rows: &[[u8; ROW]; PAGES],
+    learned: &[[u8; CONTEXTS]; PLACES],
+) -> bool
+    requires { ⌜ Sized (now working) (now rows) (now learned) ⌝ }
+    ensures { λ r. ⌜ (r ≡ lawful (deskOf (partsOf book (now (working .entry)) (now (rows .entry)) (now (learned .entry))))) × Whole
+        (partsOf book (now (working .entry)) (now (rows .entry)) (now (learned .entry))) ⌝ }
 {
-    let pages = d.pages;
-    let places = d.places;
-    if !all_pages(pages) {
-        return false;
-    }
-    if !all_places(places) {
-        return false;
-    }
-    if !pages_apart(pages) {
-        return false;
-    }
-    if !places_apart(places) {
-        return false;
-    }
-    if !pages_placed(pages, places) {
-        return false;
-    }
-    places_paged(places, pages)
-}
-
-// The refusals that every call tests first, 12 and 1; 0 where it goes on.
-pub fn early_refusal(good: bool, key: Key) -> u64
-    ensures { λ r. ⌜ r ≡ early (not good) (not (lawfulKey (key .school) (key .class))) ⌝ }
-{
-    if !good {
-        return 12;
-    }
-    if !lawful_key(key.school, key.class) {
-        return 1;
-    }
-    0
+    let pages = book.pages;
+    let places = book.places;
+    pages_right(pages, places, working, rows) & places_right(pages, places, learned)
 }

@@ -3,6 +3,7 @@ ghost use mathlib.Core.Path.{_≡_};
 ghost use mathlib.Core.List.{[]};
 ghost use lib.ListN.{take};
 ghost use Prim.Native.Nat.{ℕ, _+_, _-_, _*_, _≤_, _<_, _^_};
+ghost use Rattle.limits.specs.Limits.{maxShifts};
 ghost use Rattle.interval.specs.Interval.{decision, partOf, doublings};
 ghost use Rattle.octets.specs.Octets.{start, pel, byte, bytes, finish};
 ghost use Rattle.octets.specs.Fit.{Rest, Ready};
@@ -174,7 +175,7 @@ impl Coder {
 
     // One pel.
     pub fn pel(self, q: u64, expected: bool) -> Put
-        requires { ⌜ Ready (lift self []) × (1 ≤ q) × (q ≤ 0xAC1) × (self .interval .count < 2 ^ 32) ⌝ }
+        requires { ⌜ Ready (lift self []) × (1 ≤ q) × (q ≤ 0xAC1) × (self .interval .count < maxShifts) ⌝ }
         ensures { λ r. ⌜ (pel (decision q expected) (lift self []) ≡ lift (r .coder) (settledOf r)) × (r .settled ≤ 2) × (r .shifts ≡ doublings 12 (partOf (decision q expected) (self .interval) .width)) ⌝ }
     {
         let interval = self.interval;

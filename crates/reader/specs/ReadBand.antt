@@ -8,6 +8,7 @@ use mathlib.Core.Bool.{Bool, true, _&&_}
 use mathlib.Core.List.{List, [], _∷_, _++_}
 use lib.ListN.{getD, length, take, drop, replicate, length-drop, length-replicate, getD-replicate, List·getD-eq-default, take-append-drop}
 use lib.Seq.{drop-at, drop-append-le, take-append-le, take-all, length-take-le, getD-take, getD-drop, ext-getD}
+use Rattle.limits.specs.Limits.{maxWidth, lastBytes}
 use Rattle.template.specs.Pels.{rowBytes, pelAt, pelsTo, rowAt, bandTo, rowPadded, bandPadded}
 use Rattle.template.specs.Packing.{Row}
 
@@ -47,8 +48,8 @@ module _ (width y : ℕ) (band row : List ℕ) (size : length band ≡ y * rowBy
       less : (y : ℕ) → suc y - 1 ≡ y
       less y = omega arith
 
--- ---- a row as it stands in its room of 256 bytes
-module _ (width : ℕ) (row : List ℕ) (w : Row row width) (some : 1 ≤ width) (narrow : width ≤ 2048) where
+-- ---- a row as it stands in its room
+module _ (width : ℕ) (row : List ℕ) (w : Row row width) (some : 1 ≤ width) (narrow : width ≤ maxWidth) where
   abbrev n : ℕ
   n = rowBytes width
 
@@ -83,12 +84,13 @@ module _ (width : ℕ) (row : List ℕ) (w : Row row width) (some : 1 ≤ width)
           let k : getD row (width / 8) 0 % 256 ≡ 0 = ap (λ (r : ℕ). getD row (width / 8) 0 % 2 ^ (8 - r)) (sym z) ∙ w .clear in
           ap (λ (j : ℕ). getD row j 0) e ∙ omega (arith, w .octets (width / 8), k)
 
-  rest-zero : drop n row ≡ replicate (256 - n) 0
+  rest-zero : drop n row ≡ replicate (lastBytes - n) 0
   rest-zero =
-      ext-getD 0 (drop n row) (replicate (256 - n) 0) (length-drop n row ∙ omega (arith, w .size, length-replicate {A = ℕ} (256 - n) 0))
-      (λ i h. getD-drop n row i 0 ∙ beyond (n + i) (omega arith) ∙ sym (getD-replicate {A = ℕ} (256 - n) i 0 0 (omega (arith, w .size, length-drop n row, h))))
+      ext-getD 0 (drop n row) (replicate (lastBytes - n) 0) (length-drop n row ∙ omega (arith, w .size, length-replicate {A = ℕ} (lastBytes - n) 0))
+      (λ i h. getD-drop n row i 0 ∙ beyond (n + i) (omega arith)
+      ∙ sym (getD-replicate {A = ℕ} (lastBytes - n) i 0 0 (omega (arith, w .size, length-drop n row, h))))
 
-  pub row-is : row ≡ front ++ replicate (256 - n) 0
+  pub row-is : row ≡ front ++ replicate (lastBytes - n) 0
   row-is = sym (take-append-drop n row) ∙ ap (λ (l : List ℕ). front ++ l) rest-zero
 
   -- and so are its padding bits

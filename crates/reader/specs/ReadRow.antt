@@ -9,6 +9,7 @@ use mathlib.Core.List.{List, [], _∷_, _++_, append-assoc}
 use lib.ListN.{getD, set, length, take, replicate, length-append}
 use lib.Seq.{length-take-le, take-suc}
 use lib.Dec.{ltb, eqb}
+use Rattle.limits.specs.Limits.{maxWidth, lastBytes}
 use Rattle.coder.specs.Writing.{Stage, step, after, after-append}
 use Rattle.coder.specs.Reading.{readPels, pelOf}
 use Rattle.coder.specs.Page.{Page, contextOf, entryAt, size, sense, move}
@@ -112,11 +113,13 @@ module _ (width : ℕ) (above t₀ : List ℕ) (c₀ : Coder) (code : List ℕ) 
   read-window row t c w v at good x b f = slid-small above (pelsTo row x) x w b (pels-bits row x) (f .slid)
 
   -- there is room for the pel in its byte
-  pub read-room : (row t : List ℕ) (c : Coder) (w : Window) (v : View) (at : ℕ) (good : Bool) (x p : ℕ) → RowRead row t c w v at good x → x < 2048 → p ≤ 1 → getD row (x / 8) 0 + p * 2 ^ (7 - x % 8) ≤ 255
+  pub read-room : (row t : List ℕ) (c : Coder) (w : Window) (v : View) (at : ℕ) (good : Bool) (x p : ℕ) → RowRead row t c w v at good x
+      → x < maxWidth → p ≤ 1 → getD row (x / 8) 0 + p * 2 ^ (7 - x % 8) ≤ 255
   read-room row t c w v at good x p f h b = byte-room row x p (f .packed) h b
 
-  pub read-start : (w : Window) → Slid above [] 0 w → LawfulTable t₀ → Ready (lift c₀ []) → Row (replicate 256 0) 0 → v₀ .at ≤ length code → v₀ .look ≤ 7 → v₀ .x < 2 ^ 32
-      → RowRead (replicate 256 0) t₀ c₀ w v₀ at₀ good₀ 0
+  pub read-start : (w : Window) → Slid above [] 0 w → LawfulTable t₀ → Ready (lift c₀ []) → Row (replicate lastBytes 0) 0
+      → v₀ .at ≤ length code → v₀ .look ≤ 7 → v₀ .x < 2 ^ 32
+      → RowRead (replicate lastBytes 0) t₀ c₀ w v₀ at₀ good₀ 0
   unfolding pelsTo after matches
   read-start w s l r p a b d =
       record {
@@ -138,7 +141,8 @@ module _ (width : ℕ) (above t₀ : List ℕ) (c₀ : Coder) (code : List ℕ) 
       }
 
   -- one pel more
-  module _ (row t : List ℕ) (c : Coder) (w : Window) (v : View) (at : ℕ) (good : Bool) (x : ℕ) (f : RowRead row t c w v at good x) (h : x < width) (narrow : width ≤ 2048)
+  module _ (row t : List ℕ) (c : Coder) (w : Window) (v : View) (at : ℕ) (good : Bool) (x : ℕ) (f : RowRead row t c w v at good x)
+      (h : x < width) (narrow : width ≤ maxWidth)
       (bits : (y : ℕ) → getD above y 0 ≤ 1) (told : Told) where
     abbrev this : List ℕ
     this = pelsTo row x

@@ -8,6 +8,7 @@ use mathlib.Core.Bool.{Bool, true, _&&_}
 use mathlib.Core.List.{List, [], _++_, append-assoc}
 use lib.ListN.{getD, length, take, drop, replicate, length-append, List·getD-append}
 use lib.Seq.{paste, take-at, drop-append-add, drop-drop, getD-append-add}
+use Rattle.limits.specs.Limits.{maxWidth, lastBytes}
 use Rattle.coder.specs.Writing.{Stage, after, after-append}
 use Rattle.coder.specs.Page.{Page}
 use Rattle.estimate.specs.Estimate.{LawfulTable}
@@ -42,14 +43,14 @@ module _ (width : ℕ) (last code t₀ out₀ : List ℕ) where
         ≡ bandTo width band y ++ reads width n (record { table = r .table .entries; above = pelsTo above width; this = [] }) (sightOf (r .view) (r .coder .interval .width) code)
     pub matched : r .good ≡ matches code 0 settled
     pub place : r .at ≡ length settled
-    pub few : length settled ≤ 4096 * y
+    pub few : length settled ≤ 2 * maxWidth * y
     pub lawful : LawfulTable (r .table .entries)
     pub ready : Ready (lift (r .coder) [])
-    pub count : r .coder .interval .count ≤ 24576 * y
+    pub count : r .coder .interval .count ≤ 12 * maxWidth * y
     pub within : r .view .at ≤ length code
     pub near : r .view .look ≤ 7
     pub small : r .view .x < 2 ^ 32
-    pub lastIs : 1 ≤ y → above ≡ rowAt width band (y - 1) ++ replicate (256 - rowBytes width) 0
+    pub lastIs : 1 ≤ y → above ≡ rowAt width band (y - 1) ++ replicate (lastBytes - rowBytes width) 0
 
   pub reads-start : (r : Reading) → lift (r .coder) [] ≡ start → r .table .entries ≡ t₀ → LawfulTable t₀ → r .at ≡ 0 → r .good ≡ true → sightOf (r .view) 4096 code ≡ opened code
       → r .view .at ≤ length code → r .view .look ≤ 7 → r .view .x < 2 ^ 32 → BandRead last r out₀ 0
@@ -81,7 +82,8 @@ module _ (width : ℕ) (last code t₀ out₀ : List ℕ) where
       none h = omega arith
 
   -- a row more
-  module _ (above : List ℕ) (s : Reading) (out : List ℕ) (y : ℕ) (b : BandRead above s out y) (some : 1 ≤ width) (narrow : width ≤ 2048) (l : Line) (f : LineRead width (pelsTo above width) code s l) where
+  module _ (above : List ℕ) (s : Reading) (out : List ℕ) (y : ℕ) (b : BandRead above s out y)
+      (some : 1 ≤ width) (narrow : width ≤ maxWidth) (l : Line) (f : LineRead width (pelsTo above width) code s l) where
     abbrev bytes : ℕ
     bytes = rowBytes width
 
@@ -159,7 +161,8 @@ module _ (width : ℕ) (last code t₀ out₀ : List ℕ) where
           within = f .within;
           near = f .near;
           small = f .small;
-          lastIs = λ h. row-is width (l .row) (f .packed) some narrow ∙ ap (λ (k : List ℕ). k ++ replicate (256 - bytes) 0) (sym (last-grow width y (b .band) row (b .isBand .size) row-size 0));
+          lastIs = λ h. row-is width (l .row) (f .packed) some narrow
+              ∙ ap (λ (k : List ℕ). k ++ replicate (lastBytes - bytes) 0) (sym (last-grow width y (b .band) row (b .isBand .size) row-size 0));
         }
 
 -- there is room for the next row

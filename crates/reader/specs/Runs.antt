@@ -9,6 +9,7 @@ use mathlib.Core.List.{List}
 use lib.ListN.{getD, set, length}
 use lib.Seq.{set-getD}
 use Rattle.ground.specs.Tests.{if-ge}
+use Rattle.limits.specs.Limits.{maxWidth}
 use Rattle.estimate.specs.Estimate.{rowOf}
 use Rattle.octets.specs.declared.Coder.{Coder}
 use Rattle.octets.specs.Runs.{stillBy, still-more, still-none, in-steps}
@@ -76,7 +77,7 @@ told-so n q r p x h k = omega (arith, mul-le-mul-right p h)
 
 -- ---- white pels in context 0, whose entry expects white: told as such by the code
 module _ (width : ℕ) (over t₀ : List ℕ) (c₀ : Coder) (code : List ℕ) (at₀ : ℕ) (good₀ : Bool) (v₀ : View) (row t : List ℕ) (at : ℕ) (good : Bool)
-    (white : getD t 0 0 % 2 ≡ 0) (b : (y : ℕ) → getD over y 0 ≤ 1) (narrow : width ≤ 2048) where
+    (white : getD t 0 0 % 2 ≡ 0) (b : (y : ℕ) → getD over y 0 ≤ 1) (narrow : width ≤ maxWidth) where
   abbrev e : ℕ
   e = getD t 0 0
 

@@ -5,6 +5,7 @@ ghost use mathlib.Core.List.{[], _∷_};
 ghost use Prim.Native.Nat.{ℕ, _+_, _-_, _*_, _%_, _≤_, _<_, _^_};
 ghost use lib.Dec.{eqb};
 ghost use lib.ListN.{length, take, drop, getD};
+ghost use Rattle.limits.specs.Limits.{maxWidth, maxRows, farthest, maxShifts};
 ghost use Rattle.estimate.specs.Estimate.{LawfulEntry, LawfulTable};
 ghost use Rattle.octets.specs.Octets.{bits};
 ghost use Rattle.coder.specs.Reading.{pelOf};
@@ -22,6 +23,7 @@ ghost use Rattle.reader.specs.Reads.{BandRead};
 ghost use Rattle.reader.specs.Found.{BandFound};
 use band::Pel;
 use estimate::Table;
+use limits::ROW;
 use octets::Coder;
 use template::Window;
 
@@ -163,7 +165,8 @@ fn pel_told(e: u8, expected: bool) -> u8
 
 // One pel: the code tells it, and the writer codes it.
 fn read_pel(coder: Coder, view: View, code: &[u8], e: u8) -> Told
-    requires { ⌜ Ready (lift coder []) × LawfulEntry e × (coder .interval .count < 2 ^ 32) × (view .at ≤ length (now code)) × (view .look ≤ 7) × (view .x < 2 ^ 32) ⌝ }
+    requires { ⌜ Ready (lift coder []) × LawfulEntry e × (coder .interval .count < maxShifts) × (view .at ≤ length (now code)) × (view .look ≤ 7)
+        × (view .x < 2 ^ 32) ⌝ }
     ensures { λ r. ⌜ ReadPel coder view (now (code .entry)) e r ⌝ }
 {
     let q = estimate::row_of(e);
@@ -211,7 +214,7 @@ pub struct Reading {
 
 // A row read, in the room that a page has for its last row, and where the reading stands then.
 pub struct Line {
-    pub row: [u8; 256],
+    pub row: [u8; ROW],
     pub reading: Reading,
 }
 
@@ -230,7 +233,7 @@ pub fn match_one(code: &[u8], at: usize, b: u8) -> bool
 
 // Whether the first n of two settled bytes are the code's too.
 pub fn match_two(code: &[u8], at: usize, n: usize, first: u8, second: u8, good: bool) -> bool
-    requires { ⌜ (at < 900000000) × (n ≤ 2) ⌝ }
+    requires { ⌜ (n ≤ 2) × (at + n ≤ farthest) ⌝ }
     ensures { λ r. ⌜ r ≡ (good && matches (now (code .entry)) at (take n (first ∷ second ∷ []))) ⌝ }
 {
     if n == 0 {
@@ -259,7 +262,7 @@ pub fn pel_in_byte(p: u8, x: usize) -> u8
 
 // Where the run at x ends, as far as the row above tells: as it is known, or by a look along that row.
 fn run_end(above: &[u8], width: usize, x: usize, known: usize) -> usize
-    requires { ⌜ (width ≤ 2048) × (width ≤ 8 * length (now above)) × (x < width) × (known ≤ width) × Under (pelsTo (now above) width) x known ⌝ }
+    requires { ⌜ (width ≤ maxWidth) × (width ≤ 8 * length (now above)) × (x < width) × (known ≤ width) × Under (pelsTo (now above) width) x known ⌝ }
     ensures { λ r. ⌜ (x ≤ r) × (r ≤ width) × Under (pelsTo (now (above .entry)) width) x r ⌝ }
 {
     if x < known {
@@ -270,7 +273,10 @@ fn run_end(above: &[u8], width: usize, x: usize, known: usize) -> usize
 
 // One row, under the row above it.
 pub fn read_row(code: &[u8], above: &[u8], width: usize, start: Reading) -> Line
-    requires { ⌜ (width ≤ 2048) × (width ≤ 8 * length (now above)) × (1 ≤ width) × LawfulTable (start .table .entries) × Ready (lift (start .coder) []) × (start .coder .interval .count < 2 ^ 31) × (start .at < 800000000) × (start .view .at ≤ length (now code)) × (start .view .look ≤ 7) × (start .view .x < 2 ^ 32) ⌝ }
+    requires { ⌜ (width ≤ maxWidth) × (width ≤ 8 * length (now above)) × (1 ≤ width)
+        × LawfulTable (start .table .entries) × Ready (lift (start .coder) [])
+        × (start .coder .interval .count + 12 * maxWidth ≤ maxShifts) × (start .at + 2 * maxWidth ≤ farthest)
+        × (start .view .at ≤ length (now code)) × (start .view .look ≤ 7) × (start .view .x < 2 ^ 32) ⌝ }
     ensures { λ r. ⌜ LineRead width (pelsTo (now (above .entry)) width) (now (code .entry)) start r ⌝ }
 {
     let mut coder = start.coder;
@@ -279,7 +285,7 @@ pub fn read_row(code: &[u8], above: &[u8], width: usize, start: Reading) -> Line
     let mut good = start.good;
     let mut view = start.view;
     let mut window = Window::start(above, width);
-    let mut row = [0u8; 256];
+    let mut row = [0u8; ROW];
     let mut end: usize = 0;
     let mut x: usize = 0;
     while x < width {
@@ -333,25 +339,25 @@ pub struct Read {
     pub length: usize,
     pub shifts: u64,
     pub table: Table,
-    pub last: [u8; 256],
+    pub last: [u8; ROW],
 }
 
 // The rows of a band: where the reading stands, and the last of them.
 pub struct Rows {
     pub reading: Reading,
-    pub last: [u8; 256],
+    pub last: [u8; ROW],
 }
 
 // The rows of a band into the front of the buffer, the first under the page's last row.
 pub fn read_rows(
     table: Table,
-    last: [u8; 256],
+    last: [u8; ROW],
     width: usize,
     rows: usize,
     code: &[u8],
     out: &mut [u8],
 ) -> Rows
-    requires { ⌜ (1 ≤ width) × (width ≤ 2048) × (rows ≤ 64) × (rows * rowBytes width ≤ length (now out)) × LawfulTable (table .entries) ⌝ }
+    requires { ⌜ (1 ≤ width) × (width ≤ maxWidth) × (rows ≤ maxRows) × (rows * rowBytes width ≤ length (now out)) × LawfulTable (table .entries) ⌝ }
     ensures { λ r. ⌜ BandRead width last (now (code .entry)) (table .entries) (now (out .entry)) (r .last) (r .reading) (now (out .exit)) rows ⌝ }
 {
     let bytes = template::row_bytes(width);
@@ -381,7 +387,7 @@ pub fn read_rows(
 
 // Whether the first n of the last bytes are the code's too.
 pub fn match_last(code: &[u8], at: usize, bytes: [u8; 5], n: usize, good: bool) -> bool
-    requires { ⌜ (at < 800000000) × (n ≤ 5) ⌝ }
+    requires { ⌜ (n ≤ 5) × (at + n ≤ farthest) ⌝ }
     ensures { λ r. ⌜ r ≡ (good && matches (now (code .entry)) at (take n bytes)) ⌝ }
 {
     let mut same = good;
@@ -401,7 +407,7 @@ pub fn as_long(same: bool, n: usize, len: usize) -> bool
 }
 
 // Nothing is read, for want of room or of a good code.
-fn not_read(room: bool, table: Table, last: [u8; 256]) -> Read
+fn not_read(room: bool, table: Table, last: [u8; ROW]) -> Read
     ensures { λ r. ⌜ r ≡ record { room = room; good = false; length = 0; shifts = 0; table = table; last = last } ⌝ }
 {
     Read {
@@ -417,13 +423,13 @@ fn not_read(room: bool, table: Table, last: [u8; 256]) -> Read
 // A band back into a lent buffer: its rows in front and the rest kept; all zero where there is no room, or where no band was written so.
 pub fn read_band(
     table: Table,
-    last: [u8; 256],
+    last: [u8; ROW],
     width: usize,
     rows: usize,
     code: &[u8],
     out: &mut [u8],
 ) -> Read
-    requires { ⌜ (1 ≤ width) × (width ≤ 2048) × (1 ≤ rows) × (rows ≤ 64) × LawfulTable (table .entries) ⌝ }
+    requires { ⌜ (1 ≤ width) × (width ≤ maxWidth) × (1 ≤ rows) × (rows ≤ maxRows) × LawfulTable (table .entries) ⌝ }
     ensures { λ r. ⌜ BandFound width rows table last (now (code .entry)) (now (out .entry)) r (now (out .exit)) ⌝ }
 {
     let length = rows * template::row_bytes(width);

@@ -12,7 +12,7 @@ use Rattle.turns.specs.Shelves.{frees}
 use Rattle.turns.specs.SlotDesk.{Slotted, slotStep, slotRun, slotAfter}
 use Rattle.turns.specs.SlotDesk as slots
 use Rattle.band.specs.Band.{Reader}
-use Rattle.desk.specs.declared.Desk.{Desk}
+use Rattle.desk.specs.Desk.{Desk}
 use Rattle.desk.specs.Places.{emptyDesk, unusedPage, freePlace}
 use Rattle.desk.specs.Lawful.{lawful}
 use Rattle.desk.specs.Calls.{Call}

@@ -10,8 +10,7 @@ use Rattle.turns.specs.SlotDesk.{SlotOutcome, slotStep, slotSettle, slotAdmit}
 use Rattle.estimate.specs.declared.Table.{Table}
 use Rattle.band.specs.Band.{Reader}
 use Rattle.desk.specs.declared.Key.{Key}
-use Rattle.desk.specs.declared.Page.{Page}
-use Rattle.desk.specs.declared.Desk.{Desk}
+use Rattle.desk.specs.Desk.{Page, Desk}
 use Rattle.desk.specs.Lawful.{lawful}
 use Rattle.desk.specs.Refusals.{refusal}
 use Rattle.desk.specs.Calls.{Call, keyOf, lentTo}

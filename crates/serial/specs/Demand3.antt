@@ -19,7 +19,7 @@ use Rattle.turns.specs.SlotDesk as slots
 use Rattle.estimate.specs.declared.Table.{Table}
 use Rattle.band.specs.Band.{Reader}
 use Rattle.desk.specs.declared.Key.{Key}
-use Rattle.desk.specs.declared.Page.{Page}
+use Rattle.desk.specs.Desk.{Page}
 use Rattle.desk.specs.Places.{emptyDesk}
 use Rattle.desk.specs.Calls.{Call}
 use Rattle.desk.specs.Standing.{openPage, learnedTable}

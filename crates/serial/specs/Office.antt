@@ -8,18 +8,20 @@ use Rattle.ground.specs.Options.{given, orElse, mapped}
 use Rattle.turns.specs.Service.{Kind, opening, band, closing, abandoning, looking, changing}
 use Rattle.turns.specs.Office.{Cell, Result, refuse, accept, Office, cell, not-accepted}
 use Rattle.turns.specs.Laws.{Laws, Keeping}
+use Rattle.limits.specs.Limits.{maxPages, maxPlaces}
 use Rattle.estimate.specs.declared.Table.{Table}
 use Rattle.band.specs.Band.{Reader}
 use Rattle.desk.specs.declared.Key.{Key}
-use Rattle.desk.specs.declared.Page.{Page}
-use Rattle.desk.specs.Places.{maxPages, maxPlaces, noPage}
+use Rattle.desk.specs.Desk.{Page}
+use Rattle.desk.specs.Places.{noPage, sameKey}
+use Rattle.desk.specs.OpenPages.{key-self, key-only}
 use Rattle.desk.specs.Refusals.{refusal, lentAfter}
 use Rattle.desk.specs.Calls.{Call, keyOf, lentTo, kindOf}
 use Rattle.desk.specs.Standing.{Stand}
 use Rattle.desk.specs.Tests.{tests}
 use Rattle.desk.specs.Effects.{Change, stays, becomes, afterwards, Effect, effect}
+use Rattle.desk.specs.Allowed.{refusedAs, doneAs}
 use Rattle.desk.specs.Kinds.{KindLaw, kind-law}
-use Rattle.kept.specs.View.{sameKey, key-self, key-only}
 use Rattle.kept.specs.Stored.{cellAfter}
 use Rattle.serial.specs.Run.{Output}
 
@@ -31,10 +33,10 @@ abbrev pub meets : DeskCell → Stand
 meets x = record { sound = true; page = x .page; learned = x .learned; pageFree = true; placeFree = true }
 
 abbrev pub refusing : ℕ → Call → Output
-refusing n c = record { answer = record { number = n; length = 0; shifts = 0 }; lent = lentAfter n (lentTo c) }
+refusing n c = record { answer = refusedAs n; lent = lentAfter n (lentTo c) }
 
 abbrev pub doing : Effect → Output
-doing e = record { answer = record { number = 0; length = e .length; shifts = e .shifts }; lent = e .lent }
+doing e = record { answer = doneAs (e .length) (e .shifts); lent = e .lent }
 
 -- refused by its number, or done
 unfoldable pub decide : ℕ → Call → Output → DeskCell → Result Output DeskCell

@@ -7,12 +7,12 @@ use lib.Dec.{eqb}
 use Rattle.turns.specs.Service.{Mark, accepted, refused, crowded, Service, Entry}
 use Rattle.band.specs.Band.{Reader}
 use Rattle.desk.specs.declared.Key.{Key}
-use Rattle.desk.specs.declared.Desk.{Desk}
+use Rattle.desk.specs.Desk.{Desk, Outcome}
 use Rattle.desk.specs.declared.Answer.{Answer}
-use Rattle.desk.specs.declared.Outcome.{Outcome}
+use Rattle.desk.specs.Places.{sameKey}
+use Rattle.desk.specs.OpenPages.{key-self, key-only}
 use Rattle.desk.specs.Calls.{Call, keyOf, kindOf}
 use Rattle.desk.specs.Allowed.{outcome, lent}
-use Rattle.kept.specs.View.{sameKey, key-self, key-only}
 
 -- ---- one call: what it answers (number, length, S), the lent buffer after it (empty where none is lent), the desk after it
 pub record Step : Type 0 where

@@ -4,7 +4,9 @@ ghost use mathlib.Core.List.{[], _∷_};
 ghost use Prim.Native.Nat.{_+_, _≤_, _<_};
 ghost use lib.ListN.{length, take};
 ghost use lib.Seq.{paste};
+ghost use Rattle.limits.specs.Limits.{farthest, lastBytes};
 ghost use Rattle.store.specs.Store.{cleared, front, storeAt, stores};
+use limits::ROW;
 
 // All of the buffer zero.
 pub fn clear(out: &mut [u8])
@@ -19,7 +21,7 @@ pub fn clear(out: &mut [u8])
 
 // The byte after the first `at`, where there is room for it; the very first, which is no part of the code, is left out.
 pub fn put(out: &mut [u8], at: usize, b: u8) -> usize
-    requires { ⌜ at < 1000000000 ⌝ }
+    requires { ⌜ at < farthest ⌝ }
     ensures { λ r. ⌜ (r ≡ at + 1) × (now (out .exit) ≡ storeAt (now (out .entry)) at b) ⌝ }
 {
     if at == 0 {
@@ -34,7 +36,7 @@ pub fn put(out: &mut [u8], at: usize, b: u8) -> usize
 
 // The first n of two bytes.
 pub fn put_two(out: &mut [u8], at: usize, n: usize, first: u8, second: u8) -> usize
-    requires { ⌜ (at < 900000000) × (n ≤ 2) ⌝ }
+    requires { ⌜ (n ≤ 2) × (at + n ≤ farthest) ⌝ }
     ensures { λ r. ⌜ (r ≡ at + n) × (now (out .exit) ≡ stores (now (out .entry)) at (take n (first ∷ second ∷ []))) ⌝ }
 {
     if n == 0 {
@@ -49,7 +51,7 @@ pub fn put_two(out: &mut [u8], at: usize, n: usize, first: u8, second: u8) -> us
 
 // The first n of the last bytes.
 pub fn put_last(out: &mut [u8], at: usize, bytes: [u8; 5], n: usize) -> usize
-    requires { ⌜ (at < 900000000) × (n ≤ 5) ⌝ }
+    requires { ⌜ (n ≤ 5) × (at + n ≤ farthest) ⌝ }
     ensures { λ r. ⌜ (r ≡ at + n) × (now (out .exit) ≡ stores (now (out .entry)) at (take n bytes)) ⌝ }
 {
     let mut next = at;
@@ -62,8 +64,8 @@ pub fn put_last(out: &mut [u8], at: usize, bytes: [u8; 5], n: usize) -> usize
 }
 
 // The first n bytes of a row, at a place of the buffer.
-pub fn put_row(out: &mut [u8], from: usize, row: [u8; 256], n: usize)
-    requires { ⌜ (n ≤ 256) × (from + n ≤ length (now out)) ⌝ }
+pub fn put_row(out: &mut [u8], from: usize, row: [u8; ROW], n: usize)
+    requires { ⌜ (n ≤ lastBytes) × (from + n ≤ length (now out)) ⌝ }
     ensures { λ _. ⌜ now (out .exit) ≡ paste (now (out .entry)) from row n ⌝ }
 {
     let mut i: usize = 0;

@@ -10,6 +10,7 @@ use lib.ListN.{getD, set, length, replicate, length-set, getD-replicate, List·g
 use lib.Seq.{getD-set-same, getD-set-other}
 use lib.Arith.{digits-div, digits-mod}
 use lib.Pow.{pow-add, pow-pos}
+use Rattle.limits.specs.Limits.{maxWidth, lastBytes}
 use Rattle.ground.specs.Tests.{same?}
 use Rattle.template.specs.Pels.{pelAt, pelsTo}
 
@@ -53,21 +54,21 @@ module _ (b p q k : ℕ) (some : 1 ≤ q) (whole : 2 * q * k ≡ 256) (top : b �
 
 -- ---- a row of which x pels are in
 pub record Row (row : List ℕ) (x : ℕ) : Type 0 where
-  pub size : length row ≡ 256
+  pub size : length row ≡ lastBytes
   pub octets : (i : ℕ) → getD row i 0 ≤ 255
   pub clear : getD row (x / 8) 0 % 2 ^ (8 - x % 8) ≡ 0
   pub zeros : (i : ℕ) → x / 8 < i → getD row i 0 ≡ 0
 
-zero-at : (i : ℕ) → getD (replicate 256 0) i 0 ≡ zero
-zero-at i = go (decLt i 256)
+zero-at : (i : ℕ) → getD (replicate lastBytes 0) i 0 ≡ zero
+zero-at i = go (decLt i lastBytes)
   where
-    go : Dec (i < 256) → getD (replicate 256 0) i 0 ≡ zero
-    go (yes h) = getD-replicate {A = ℕ} 256 i 0 0 h
-    go (no h) = List·getD-eq-default {A = ℕ} (replicate 256 0) 0 {n = i} (omega arith)
+    go : Dec (i < lastBytes) → getD (replicate lastBytes 0) i 0 ≡ zero
+    go (yes h) = getD-replicate {A = ℕ} lastBytes i 0 0 h
+    go (no h) = List·getD-eq-default {A = ℕ} (replicate lastBytes 0) 0 {n = i} (omega arith)
 
-pub row-none : Row (replicate 256 0) 0
+pub row-none : Row (replicate lastBytes 0) 0
 row-none =
-    record { size = length-replicate {A = ℕ} 256 0; octets = λ i. omega (arith, zero-at i); clear = refl; zeros = λ i h. zero-at i }
+    record { size = length-replicate {A = ℕ} lastBytes 0; octets = λ i. omega (arith, zero-at i); clear = refl; zeros = λ i h. zero-at i }
 
 weight-whole : (r : ℕ) → r ≤ 7 → 2 * 2 ^ (7 - r) * 2 ^ r ≡ 256
 weight-whole r h =
@@ -82,7 +83,7 @@ double-weight r h = ap (λ (x : ℕ). 2 ^ x) (one r h) ∙ pow-succ' 2 (7 - r)
     one : (r : ℕ) → r ≤ 7 → 8 - r ≡ suc (7 - r)
     one r h = omega arith
 
-module _ (row : List ℕ) (x p : ℕ) (w : Row row x) (fits : x < 2048) (bit : p ≤ 1) where
+module _ (row : List ℕ) (x p : ℕ) (w : Row row x) (fits : x < maxWidth) (bit : p ≤ 1) where
   abbrev i : ℕ
   i = x / 8
 

@@ -9,6 +9,7 @@ use lib.Dec.{eqb}
 use lib.ListN.{length, getD, take, drop, length-take, length-drop}
 use mathlib.Core.Bool.{true, false, _&&_}
 use mathlib.Core.List.{List}
+use Rattle.limits.specs.Limits.{maxWidth, maxRows, maxBand}
 use Rattle.ground.specs.Bools.{and-true, and-false}
 use Rattle.ground.specs.Tests.{same?}
 use mathlib.Core.Logic.{_⊎_, inl, inr, _≢_}
@@ -39,12 +40,12 @@ unfolding rowPadded
 padded-by row width bytes e h = rw (shift-small (8 * bytes - width) (omega arith) .0, e)
 
 -- ---- a row is within its band
-pub row-within : (width bytes rows y len : ℕ) → bytes ≡ rowBytes width → width ≤ 2048 → rows ≤ 64 → len ≡ rows * rowBytes width → y < rows
-    → (y * bytes + bytes ≤ len) × (y * bytes + bytes ≤ 16384)
+pub row-within : (width bytes rows y len : ℕ) → bytes ≡ rowBytes width → width ≤ maxWidth → rows ≤ maxRows → len ≡ rows * rowBytes width → y < rows
+    → (y * bytes + bytes ≤ len) × (y * bytes + bytes ≤ maxBand)
 row-within width bytes rows y len e w r l h =
     let p : len ≡ rows * bytes = l ∙ ap (λ (n : ℕ). rows * n) (sym e) in
     let q : suc y * bytes ≤ rows * bytes = mul-le-mul-right bytes h in
-    let s : suc y * bytes ≤ 64 * bytes = mul-le-mul-right bytes (omega arith) in
+    let s : suc y * bytes ≤ maxRows * bytes = mul-le-mul-right bytes (omega arith) in
     (omega (arith, suc-mul y bytes), omega (arith, suc-mul y bytes))
 
 pub row-is : (width : ℕ) (band : List ℕ) (bytes y : ℕ) → bytes ≡ rowBytes width → take (y * bytes + bytes - y * bytes) (drop (y * bytes) band) ≡ rowAt width band y

@@ -1,8 +1,9 @@
 // Packed rows, their pels, and the context that slides along a row.
 ghost use mathlib.Core.Path.{_≡_};
-ghost use Prim.Native.Nat.{_+_, _*_, _%_, _≤_, _<_};
+ghost use Prim.Native.Nat.{_+_, _*_, _%_, _≤_, _<_, _^_};
 ghost use mathlib.Core.List.{[]};
 ghost use lib.ListN.{length, getD};
+ghost use Rattle.limits.specs.Limits.{maxWidth, maxRows, lastBytes};
 ghost use Rattle.template.specs.Pels.{rowBytes, pelAt, pelsTo, rowPadded, bandPadded};
 ghost use Rattle.template.specs.Window.{Slid};
 ghost use Rattle.template.specs.Words.{Word};
@@ -10,7 +11,7 @@ ghost use Rattle.template.specs.White.{White, Under, Clear, whiteWindow}
 
 // The bytes of a row.
 pub fn row_bytes(width: usize) -> usize
-    requires { ⌜ width ≤ 65535 ⌝ }
+    requires { ⌜ width + 7 < 2 ^ 64 ⌝ }
     ensures { λ r. ⌜ r ≡ rowBytes width ⌝ }
 {
     (width + 7) / 8
@@ -38,7 +39,7 @@ pub fn edge_pel(row: &[u8], width: usize, x: usize) -> usize
 
 // The padding bits of a row are zero bits.
 pub fn row_padded(row: &[u8], width: usize) -> bool
-    requires { ⌜ (1 ≤ width) × (width ≤ 65535) × (length (now row) ≡ rowBytes width) ⌝ }
+    requires { ⌜ (1 ≤ width) × (width + 7 < 2 ^ 64) × (length (now row) ≡ rowBytes width) ⌝ }
     ensures { λ r. ⌜ r ≡ rowPadded width (now (row .entry)) ⌝ }
 {
     let bytes = row_bytes(width);
@@ -49,7 +50,7 @@ pub fn row_padded(row: &[u8], width: usize) -> bool
 
 // And those of every row of a band.
 pub fn band_padded(pels: &[u8], width: usize, rows: usize) -> bool
-    requires { ⌜ (1 ≤ width) × (width ≤ 2048) × (rows ≤ 64) × (length (now pels) ≡ rows * rowBytes width) ⌝ }
+    requires { ⌜ (1 ≤ width) × (width ≤ maxWidth) × (rows ≤ maxRows) × (length (now pels) ≡ rows * rowBytes width) ⌝ }
     ensures { λ r. ⌜ r ≡ bandPadded width (now (pels .entry)) rows ⌝ }
 {
     let bytes = row_bytes(width);
@@ -90,7 +91,7 @@ fn word_at(row: &[u8], k: usize) -> u64
 
 // The same at the end of a row, where a byte may be missing: it counts as 0.
 fn join_any(row: &[u8], k: usize, n: usize, w: u64) -> u64
-    requires { ⌜ (k ≤ 65535) × (n < 8) × Word (now row) k n w ⌝ }
+    requires { ⌜ (k ≤ lastBytes) × (n < 8) × Word (now row) k n w ⌝ }
     ensures { λ r. ⌜ Word (now (row .entry)) k (n + 1) r ⌝ }
 {
     if k + n < row.len() {
@@ -115,7 +116,7 @@ fn short_word(row: &[u8]) -> u64
 
 // Where the white pels from y on end, within the eight bytes from k on, which are w.
 fn white_of(row: &[u8], k: usize, w: u64, y: usize) -> usize
-    requires { ⌜ Word (now row) k 8 w × (k ≤ 65535) × (8 * k ≤ y) × (y < 8 * k + 64) ⌝ }
+    requires { ⌜ Word (now row) k 8 w × (k ≤ lastBytes) × (8 * k ≤ y) × (y < 8 * k + 64) ⌝ }
     ensures { λ r. ⌜ (y ≤ r) × (r ≤ 8 * k + 64) × White (now (row .entry)) y r ⌝ }
 {
     let mask = 0xFFFFFFFFFFFFFFFFu64 >> (y - 8 * k);
@@ -125,7 +126,7 @@ fn white_of(row: &[u8], k: usize, w: u64, y: usize) -> usize
 
 // The same, the bytes read here.
 fn white_in(row: &[u8], k: usize, y: usize) -> usize
-    requires { ⌜ (k + 8 ≤ length (now row)) × (k ≤ 65535) × (8 * k ≤ y) × (y < 8 * k + 64) ⌝ }
+    requires { ⌜ (k + 8 ≤ length (now row)) × (k ≤ lastBytes) × (8 * k ≤ y) × (y < 8 * k + 64) ⌝ }
     ensures { λ r. ⌜ (y ≤ r) × (r ≤ 8 * k + 64) × White (now (row .entry)) y r ⌝ }
 {
     white_of(row, k, word_at(row, k), y)
@@ -133,7 +134,7 @@ fn white_in(row: &[u8], k: usize, y: usize) -> usize
 
 // Where the white pels from x on end, in a row of so many bytes.
 fn white_to(row: &[u8], bytes: usize, x: usize) -> usize
-    requires { ⌜ (bytes ≤ length (now row)) × (bytes ≤ 8192) × (x < 8 * bytes) ⌝ }
+    requires { ⌜ (bytes ≤ length (now row)) × (bytes ≤ lastBytes) × (x < 8 * bytes) ⌝ }
     ensures { λ r. ⌜ (x ≤ r) × White (now (row .entry)) x r ⌝ }
 {
     if bytes < 8 {
@@ -159,7 +160,7 @@ fn white_to(row: &[u8], bytes: usize, x: usize) -> usize
 
 // Where the pels from x on cease to lie under white ones, up to two places to the right.
 pub fn under_to(above: &[u8], width: usize, x: usize) -> usize
-    requires { ⌜ (width ≤ 2048) × (width ≤ 8 * length (now above)) × (x < width) ⌝ }
+    requires { ⌜ (width ≤ maxWidth) × (width ≤ 8 * length (now above)) × (x < width) ⌝ }
     ensures { λ r. ⌜ (x ≤ r) × (r ≤ width) × Under (pelsTo (now (above .entry)) width) x r ⌝ }
 {
     let y = white_to(above, row_bytes(width), x);
@@ -174,7 +175,7 @@ pub fn under_to(above: &[u8], width: usize, x: usize) -> usize
 
 // Where the white pels under white ones end.
 pub fn run_to(row: &[u8], above: &[u8], width: usize, x: usize) -> usize
-    requires { ⌜ (width ≤ 2048) × (width ≤ 8 * length (now row)) × (width ≤ 8 * length (now above)) × (x < width) ⌝ }
+    requires { ⌜ (width ≤ maxWidth) × (width ≤ 8 * length (now row)) × (width ≤ 8 * length (now above)) × (x < width) ⌝ }
     ensures { λ r. ⌜ (x ≤ r) × Clear (now (row .entry)) (pelsTo (now (above .entry)) width) width x r ⌝ }
 {
     let over = under_to(above, width, x);
@@ -208,7 +209,7 @@ impl Window {
 
     // At x, behind a white run.
     pub fn white(above: &[u8], width: usize, x: usize) -> Self
-        requires { ⌜ (width ≤ 8 * length (now above)) × (x ≤ 65535) ⌝ }
+        requires { ⌜ (width ≤ 8 * length (now above)) × (x ≤ maxWidth) ⌝ }
         ensures { λ r. ⌜ r ≡ whiteWindow (pelsTo (now (above .entry)) width) x ⌝ }
     {
         let a = edge_pel(above, width, x + 2);
@@ -217,7 +218,7 @@ impl Window {
 
     // At x + 1, after the pel at x.
     pub fn slide(self, above: &[u8], width: usize, x: usize, pel: u8) -> Self
-        requires { ⌜ (width ≤ 8 * length (now above)) × (x < 65536) × (pel ≤ 1) × (self .above < 32) × (self .this < 4) ⌝ }
+        requires { ⌜ (width ≤ 8 * length (now above)) × (x < maxWidth) × (pel ≤ 1) × (self .above < 32) × (self .this < 4) ⌝ }
         ensures { λ r. ⌜ (r .above ≡ (2 * self .above + getD (pelsTo (now (above .entry)) width) (x + 3) 0) % 32) × (r .this ≡ (2 * self .this + pel) % 4) ⌝ }
     {
         let a = edge_pel(above, width, x + 3);

@@ -1,10 +1,14 @@
 // P1 to P9 of document 01: each band written on a desk, its code in hexadecimal and its S.
+ghost use Rattle.desk.specs.Parts.{Sized};
 use desk::Ask;
-use desk::Desk;
+use desk::Book;
 use desk::Direction;
 use desk::Key;
 use desk::Opening;
-use desk::Outcome;
+use limits::CONTEXTS;
+use limits::PAGES;
+use limits::PLACES;
+use limits::ROW;
 
 fn the_key() -> Key {
     Key {
@@ -13,31 +17,37 @@ fn the_key() -> Key {
     }
 }
 
-// A page of this width, open to write on an empty desk.
-fn new_page(width: u64) -> Desk {
-    let d = desk::empty_desk();
-    let ask = Opening {
+// A page to write, of that width.
+fn page_of(width: u64) -> Opening {
+    Opening {
         key: the_key(),
         direction: Direction::Write,
         width: width,
-    };
-    let opened = calls::open(d, ask);
-    opened.desk
+    }
 }
 
-// A band written on the open page.
-fn band_on(d: Desk, rows: u64, pels: &[u8], out: &mut [u8]) -> Outcome {
-    let ask = Ask {
+// A band of that many rows.
+fn band_of(count: u64) -> Ask {
+    Ask {
         key: the_key(),
-        rows: rows,
-    };
-    bands::write(d, ask, pels, out)
+        rows: count,
+    }
 }
 
-// The line of one band: its name, its code and its S.
-fn line(name: &[u8], d: Desk, rows: u64, pels: &[u8]) {
+// The line of one band on the open page: its name, its code and its S.
+fn line<'a, 'b, 'c>(
+    name: &'b [u8],
+    book: Book,
+    working: &'a mut [[u8; CONTEXTS]; PAGES],
+    rows: &'a mut [[u8; ROW]; PAGES],
+    learned: &'a mut [[u8; CONTEXTS]; PLACES],
+    count: u64,
+    pels: &'c [u8],
+)
+    requires { ⌜ Sized (now working) (now rows) (now learned) ⌝ }
+{
     let mut out = [0u8; 16];
-    let wrote = band_on(d, rows, pels, &mut out);
+    let wrote = bands::write(book, working, rows, learned, band_of(count), pels, &mut out);
     lines::put_text(name);
     lines::put_text(b":");
     lines::put_bytes(store::front_of(&out, wrote.answer.length as usize));
@@ -47,17 +57,41 @@ fn line(name: &[u8], d: Desk, rows: u64, pels: &[u8]) {
 }
 
 // A band on a new page.
-fn first(name: &[u8], width: u64, rows: u64, pels: &[u8]) {
-    let d = new_page(width);
-    line(name, d, rows, pels);
+fn first(name: &[u8], width: u64, count: u64, pels: &[u8]) {
+    let mut working = [[0u8; CONTEXTS]; PAGES];
+    let mut rows = [[0u8; ROW]; PAGES];
+    let mut learned = [[0u8; CONTEXTS]; PLACES];
+    let book = desk::emptied(&mut working, &mut rows, &mut learned);
+    let a = pages::open(book, &mut working, &mut rows, &mut learned, page_of(width));
+    line(
+        name,
+        a.book,
+        &mut working,
+        &mut rows,
+        &mut learned,
+        count,
+        pels,
+    );
 }
 
 // A second band of one row on a page of width 1.
 fn second(name: &[u8], before: &[u8], pels: &[u8]) {
+    let mut working = [[0u8; CONTEXTS]; PAGES];
+    let mut rows = [[0u8; ROW]; PAGES];
+    let mut learned = [[0u8; CONTEXTS]; PLACES];
+    let book = desk::emptied(&mut working, &mut rows, &mut learned);
+    let a = pages::open(book, &mut working, &mut rows, &mut learned, page_of(1));
     let mut out = [0u8; 16];
-    let d = new_page(1);
-    let wrote = band_on(d, 1, before, &mut out);
-    line(name, wrote.desk, 1, pels);
+    let b = bands::write(
+        a.book,
+        &mut working,
+        &mut rows,
+        &mut learned,
+        band_of(1),
+        before,
+        &mut out,
+    );
+    line(name, b.book, &mut working, &mut rows, &mut learned, 1, pels);
 }
 
 fn main() {

@@ -55,24 +55,29 @@ const RESERVED: u64 = 1;
 const LEARNED: u64 = 2;
 
 /// The fields in the order of memory, each number with its size in bytes,
-/// which is also its alignment.
+/// which is also its alignment: first the book, then the arrays.
 fn visit_desk(desk: &mut RawDesk, memory: &mut Memory) {
     for page in &mut desk.pages {
         memory.number(&mut page.state, 8);
         memory.number(&mut page.school, 8);
         memory.number(&mut page.class, 8);
         memory.number(&mut page.width, 8);
-        memory.bytes(&mut page.table);
-        memory.bytes(&mut page.last);
-        memory.align(8);
     }
     for place in &mut desk.places {
         memory.number(&mut place.state, 8);
         memory.number(&mut place.school, 8);
         memory.number(&mut place.class, 8);
-        memory.bytes(&mut place.table);
-        memory.align(8);
     }
+    for page in &mut desk.pages {
+        memory.bytes(&mut page.table);
+    }
+    for page in &mut desk.pages {
+        memory.bytes(&mut page.last);
+    }
+    for place in &mut desk.places {
+        memory.bytes(&mut place.table);
+    }
+    memory.align(8);
 }
 
 fn raw_page(page: &Page) -> RawPage {

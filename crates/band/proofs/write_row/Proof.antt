@@ -174,7 +174,7 @@ put-pel-requires c κs =
       omega (
         arith,
         l .inv .0 .count,
-        l .inv .0 .passed,
+        c .before .before .before .before .before .before .before .loop-test .taken,
         c .before .before .before .before .before .before .before .before .before .before .before
             .before .before .before .before .pre .6,
         c .before .before .before .before .before .before .before .before .before .before .before
@@ -195,7 +195,9 @@ put-two-requires c κs =
     let l = c .before .before .before .before .before .before .before .before .before .before .before .before .loop in
     let p = c .before .before .before .before .before .before .before .before .before .before .before .before .before .before .before .before
     .before .before .before .pre in
-    (omega (arith, l .inv .0 .place, l .inv .0 .few, l .inv .0 .passed, p .0, p .7), c .before .before .before .put-pel .ensures .few)
+    let t = c .before .before .before .before .before .before .before .before .before .before .before .loop-test .taken in
+    let n = c .before .before .before .put-pel .ensures .few in
+    (n, omega (arith, l .inv .0 .place, l .inv .0 .few, t, n, p .0, p .7))
 
 slide-requires : tie.Need-slide-requires Inv-loop μ-loop
 slide-requires c κs =

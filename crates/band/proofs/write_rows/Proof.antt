@@ -5,6 +5,7 @@ use native.Mathlib.Omega.{arith}
 use borrow.Author.Needs.{needs}
 use lib.ListN.{length}
 use lib.Seq.{length-take-le}
+use Rattle.limits.specs.Limits.{lastBytes}
 use Rattle.template.specs.Pels.{rowAt, rowBytes}
 use Rattle.octets.specs.Fit.{Ready, ready-start}
 use Rattle.band.specs.Bands.{BandAt, RowsKeep, band-first, start-count, keep-next, rows-fit, row-inside, band-length}
@@ -63,7 +64,7 @@ write-row-requires c κs =
     let z = rows-fit (a .width) (a .pels .now) (rowBytes (a .width)) refl
     (a .rows) 0 (omega arith) (c .before .before .before .before .before .before .before .pre .3)
     (c .before .before .before .before .before .before .before .pre .1) (c .before .before .before .before .before .before .before .pre .4) in
-    let n : length (a .t2) ≡ 256 = search needs in (
+    let n : length (a .t2) ≡ lastBytes = search needs in (
       c .before .before .before .before .before .before .before .pre .1,
       rw (length-take-le (c .before .before .before .before .row-bytes .result) (a .pels .now) (omega (arith, c .before .before .before .before .row-bytes .ensures, z .0))) (omega (arith, c .before .before .before .before .row-bytes .ensures)),
       omega (arith, c .before .before .before .before .before .before .before .pre .1),
@@ -94,8 +95,8 @@ write-next-requires c κs =
       row-inside (a .width) (a .pels .now) (a .rows) _ (omega (arith, t, l .inv .0)) (q .4),
       b .lawful,
       b .ready,
-      omega (arith, b .count, q .3, l .inv .1),
-      omega (arith, b .place, b .few, q .3, l .inv .1),
+      omega (arith, b .count, t, q .3),
+      omega (arith, b .place, b .few, t, q .3),
     )
 
 -- src/lib.rt:120:9

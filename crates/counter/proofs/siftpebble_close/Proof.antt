@@ -4,10 +4,10 @@ use mathlib.Core.List.{[]}
 use contract.Running.{givenOf, tables, tablesOf}
 use denote.Triple.Spec.{tripleOf}
 use denote.Triple.Table.{entered, cited}
-use Rattle.desk.specs.declared.Desk.{Desk}
-use Rattle.desk.specs.declared.Outcome.{Outcome}
+use Rattle.desk.specs.declared.Answer.{Answer}
+use Rattle.desk.specs.declared.Parts.{Parts}
 use Rattle.desk.specs.Calls.{closes}
-use Rattle.desk.specs.Allowed.{Allowed}
+use Rattle.desk.specs.Replies.{Serves}
 use Rattle.counter.specs.Asked.{asKey}
 use Rattle.counter.proofs.Two.{outer-meets, Callee}
 use Rattle.counter.proofs.closed.Symbol as g
@@ -17,13 +17,13 @@ use Rattle.counter.proofs.siftpebble_close.Key as key
 use Rattle.counter.proofs.siftpebble_close.Statement as stated
 use Rattle.counter.proofs.siftpebble_close.Code as code
 
-abbrev Says : Desk → ℕ → ℕ → Outcome → Type 0
-Says d s c r = Allowed d (closes (asKey s c)) r []
+abbrev Does : Parts → ℕ → ℕ → Answer → Parts → Type 0
+Does d s c r d′ = Serves d (closes (asKey s c)) r d′ []
 
 pub siftpebble-close-spec : {M : Type 1} → stated.statement M
 unfolding code.routine tablesOf
 siftpebble-close-spec 𝓤 H 𝓜 𝓖 𝓡 =
     entered 𝓤 H (tripleOf 𝓤 H (𝓖 .A) f.signature (f.spec 𝓤 H (𝓖 .A) (𝓜 .mem) (𝓡 .run)))
     (tables 𝓤 H 𝓜 𝓡 code.env .C) (tables 𝓤 H 𝓜 𝓡 code.env .Λ) key.name code.function (code.unfolded 𝓤 H 𝓜 𝓡)
-    (outer-meets g.name Says 𝓤 H (𝓖 .A) (givenOf 𝓤 H 𝓜 𝓖) (tablesOf 𝓤 H 𝓜 (tables 𝓤 H 𝓜 𝓡 code.env))
-    (cited 𝓤 H (Callee Says 𝓤 H (𝓖 .A)) 𝓜 𝓡 code.env g.name g.routine code.calls-counter·closed (g-thm.met 𝓤 H 𝓜 𝓖 𝓡)))
+    (outer-meets g.name Does 𝓤 H (𝓖 .A) (givenOf 𝓤 H 𝓜 𝓖) (tablesOf 𝓤 H 𝓜 (tables 𝓤 H 𝓜 𝓡 code.env))
+    (cited 𝓤 H (Callee Does 𝓤 H (𝓖 .A)) 𝓜 𝓡 code.env g.name g.routine code.calls-counter·closed (g-thm.met 𝓤 H 𝓜 𝓖 𝓡)))

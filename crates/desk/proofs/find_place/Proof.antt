@@ -1,24 +1,26 @@
--- The first used place of the key is found, or there is none. Assumes nothing.
+-- The first such place is found, or there is none. Assumes nothing.
 use mathlib.Core.Path.{sym, _∙_}
 use Prim.Native.Nat.{_-_}
 use native.Mathlib.Omega.{arith}
 use borrow.Author.Needs.{needs}
-use Rattle.desk.specs.Places.{isPlaceOf, noPlace}
-use Rattle.desk.specs.Finding.{Searching, search-starts, found-here, found-later, found-nowhere}
+use Rattle.limits.specs.Limits.{maxPlaces}
+use Rattle.desk.specs.Lines.{noPlaceLine}
+use Rattle.desk.specs.Finding.{placeSought, Searching, search-starts, found-here, found-later, found-nowhere}
 use Rattle.desk.proofs.find_place.Statement.{statement}
 use Rattle.desk.proofs.find_place.Tie as tie
 
 abbrev Inv-loop : tie.InvT-loop
-Inv-loop key places i₀ i = Searching (isPlaceOf key) places 8 i
+Inv-loop b sought places i₀ i = Searching (placeSought sought) places maxPlaces b i
 
 abbrev μ-loop : tie.MeasureT-loop
-μ-loop key places i₀ i = 8 - i
+μ-loop b sought places i₀ i = maxPlaces - i
 
 returns : tie.Need-returns Inv-loop μ-loop
-returns c = found-here (c .before .before .before .before .loop .inv) noPlace (omega arith) (sym (c .before .is-under .ensures) ∙ c .if1 .taken)
+returns c = found-here (c .before .before .before .before .loop .inv) noPlaceLine (omega arith) (sym (c .before .is-sought .ensures) ∙ c .if1 .taken)
 
 loop-again : tie.Need-loop-again Inv-loop μ-loop
-loop-again c = found-later (c .before .before .before .before .loop .inv) noPlace (omega arith) (sym (c .before .is-under .ensures) ∙ c .if1 .left)
+loop-again c = found-later (c .before .before .before .before .loop .inv) noPlaceLine (omega arith) (sym (c .before .is-sought .ensures)
+    ∙ c .if1 .left)
 
 returns-2 : tie.Need-returns-2 Inv-loop μ-loop
 returns-2 c = found-nowhere (c .before .loop .inv) (omega arith)

@@ -2,11 +2,12 @@
 use native.Mathlib.Nat.{div-mul-le-self, div-lt-iff-lt-mul, mul-le-mul}
 use native.Mathlib.Omega.{arith}
 use borrow.Author.Needs.{needs}
+use Rattle.limits.specs.Limits.{maxWidth}
 use Rattle.interval.proofs.fits.Statement.{statement}
 use Rattle.interval.proofs.fits.Tie as tie
 
 mul-if1 : tie.Need-mul-if1
-mul-if1 c = let p = mul-le-mul {n₁ = c .args .n} {m₁ = c .args .q} {n₂ = 65535} {m₂ = 0xAC1} (c .pre .0) (c .pre .2) in omega arith
+mul-if1 c = let p = mul-le-mul {n₁ = c .args .n} {m₁ = c .args .q} {n₂ = maxWidth} {m₂ = 0xAC1} (c .pre .0) (c .pre .2) in omega arith
 
 returns : tie.Need-returns
 returns c = (omega arith, c .if1 .taken)

@@ -1,31 +1,13 @@
--- The rest has one under the key where all has. Assumes nothing.
-use mathlib.Core.Path.{sym, _∙_}
-use Prim.Native.Nat.{_-_}
-use native.Mathlib.Omega.{arith}
+-- A search finds one where there is one. Assumes nothing.
+use mathlib.Core.Path.{ap, _∙_}
+use Rattle.desk.specs.Places.{isFound}
+use Rattle.desk.specs.OpenPages.{found-any}
 use borrow.Author.Needs.{needs}
-use lib.ListN.{drop}
-use Rattle.desk.specs.Places.{isPlaceOf, noPlace}
-use Rattle.desk.specs.Lawful.{any}
-use Rattle.lawful.specs.Loops.{Left, left-starts, any-found, any-passed, any-end}
 use Rattle.lawful.proofs.has_place.Statement.{statement}
 use Rattle.lawful.proofs.has_place.Tie as tie
 
-abbrev Inv-loop : tie.InvT-loop
-Inv-loop from key places i₀ i = Left any (isPlaceOf key) (any (isPlaceOf key) (drop from places)) places 8 i
-
-abbrev μ-loop : tie.MeasureT-loop
-μ-loop from key places i₀ i = 8 - i
-
-returns : tie.Need-returns Inv-loop μ-loop
-returns c = any-found (c .before .before .before .before .loop .inv) noPlace (omega arith) (sym (c .before .is-under .ensures) ∙ c .if1 .taken)
-
-loop-again : tie.Need-loop-again Inv-loop μ-loop
-loop-again c = any-passed (c .before .before .before .before .loop .inv) noPlace (omega arith) (sym (c .before .is-under .ensures) ∙ c .if1 .left)
-
-returns-2 : tie.Need-returns-2 Inv-loop μ-loop
-returns-2 c = any-end (c .before .loop .inv) (omega arith)
+returns : tie.Need-returns
+returns c = c .is-found .ensures ∙ ap isFound (c .before .find-place .ensures .0) ∙ found-any _ _ _
 
 pub has-place-spec : {M : Type 1} → statement M
-has-place-spec =
-    tie.close (tie.spec Inv-loop μ-loop (λ c. left-starts (search needs)) (λ c. search needs) (λ c. search needs) (λ c κs. search needs) returns (λ c.
-    omega arith) (λ c. omega arith) loop-again returns-2)
+has-place-spec = tie.close (tie.spec (λ c κs. search needs) (λ c κs. search needs) returns)

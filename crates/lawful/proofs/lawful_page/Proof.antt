@@ -1,4 +1,4 @@
--- By whether it is used. Assumes nothing.
+-- By whether it is open. Assumes nothing.
 use borrow.Author.Tests.{eq-eqb, ne-eqb}
 use Rattle.desk.specs.Lawful.{lawfulPage}
 use borrow.Author.Needs.{needs}

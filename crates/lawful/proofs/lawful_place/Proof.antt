@@ -1,55 +1,30 @@
--- By whether it is used, and by whether its table is learned. Assumes nothing.
-use mathlib.Core.Path.{sym, _∙_}
-use borrow.Author.Tests.{eq-eqb, ne-eqb, le-leb, lt-leb, not-true, not-false}
-use Rattle.desk.specs.Lawful.{lawfulPlace}
+-- By whether it is used; its state says how high its entries may be. Assumes nothing.
+use mathlib.Core.Path.{ap, _∙_}
+use Prim.Native.Nat.{ℕ}
+use mathlib.Core.Bool.{not}
+use borrow.Author.Tests.{ne-eqb}
+use Rattle.desk.specs.Places.{sameKey}
+use Rattle.lawful.specs.Highest.{low}
+use Rattle.lawful.specs.Each.{free-made, used-made}
 use borrow.Author.Needs.{needs}
 use Rattle.lawful.proofs.lawful_place.Statement.{statement}
 use Rattle.lawful.proofs.lawful_place.Tie as tie
 
 returns : tie.Need-returns
-unfolding lawfulPlace
-returns c = rw (eq-eqb _ _ (c .before .if1 .taken)) (c .free-right .ensures)
+returns c =
+    let a = c .before .before .before .before .before .before .before .args in
+    free-made _ _ _ (c .before .before .if1 .taken) (c .same-key .ensures ∙ ap (sameKey (a .q .key)) (c .before .no-key .ensures))
+    (c .before .before .before .before .is-low .ensures ∙ ap (λ (n : ℕ). low n (a .table .now))
+    (c .before .before .before .before .before .top-entry .ensures))
 
 returns-2 : tie.Need-returns-2
-unfolding lawfulPlace
-returns-2 c = rw (ne-eqb _ _ (c .before .before .if1 .left), lt-leb _ _ (c .if2 .taken))
-
-returns-3 : tie.Need-returns-3
-unfolding lawfulPlace
-returns-3 c =
-    rw (
-      ne-eqb _ _ (c .before .before .before .before .if1 .left),
-      le-leb _ _ (c .before .before .if2 .left),
-      sym (c .before .lawful-key .ensures) ∙
-          not-true _ (c .if3 .taken),
-    )
-
-returns-4 : tie.Need-returns-4
-unfolding lawfulPlace
-returns-4 c =
-    rw (
-      ne-eqb _ _ (c .before .before .before .before .before .before .before .before .before .if1 .left),
-      le-leb _ _
-          (c .before .before .before .before .before .before .before .if2 .left),
-      sym
-          (c .before .before .before .before .before .before .lawful-key .ensures) ∙ not-false _ (c .before .before .before .before .before .if3 .left),
-      eq-eqb _ _ (c .before .before .if4 .taken),
-    ) (c .low-indexes .ensures)
-
-returns-5 : tie.Need-returns-5
-unfolding lawfulPlace
-returns-5 c =
-    rw (
-      ne-eqb _ _ (c .before .before .before .before .before .before .before .before .before .if1 .left),
-      le-leb _ _
-          (c .before .before .before .before .before .before .before .if2 .left),
-      sym
-          (c .before .before .before .before .before .before .lawful-key .ensures) ∙ not-false _ (c .before .before .before .before .before .if3 .left),
-      ne-eqb _ _ (c .before .before .if4 .left),
-    ) (c .zero-from .ensures)
+returns-2 c =
+    let a = c .before .before .before .before .before .before .before .args in
+    used-made _ _ _ (ap not (ne-eqb _ _ (c .before .before .if1 .left))) (c .lawful-key .ensures)
+    (c .before .before .before .before .is-low .ensures ∙ ap (λ (n : ℕ). low n (a .table .now))
+    (c .before .before .before .before .before .top-entry .ensures))
 
 pub lawful-place-spec : {M : Type 1} → statement M
 lawful-place-spec =
     tie.close
-    (tie.spec (λ c κs. search needs) returns returns-2 (λ c κs. search needs) returns-3 (λ c. search needs) (λ c κs. search needs) returns-4
-    (λ c. search needs) (λ c κs. search needs) returns-5)
+    (tie.spec (λ c κs. search needs) (λ c κs. search needs) (λ c κs. search needs) (λ c κs. search needs) returns (λ c κs. search needs) returns-2)

@@ -1,43 +1,20 @@
--- Each number is zero, then each byte. Assumes nothing.
-use mathlib.Core.Path.{sym, _∙_}
-use borrow.Author.Tests.{eq-eqb, ne-eqb, not-true, not-false}
+-- The key, the width, then each byte is zero. Assumes nothing.
+use mathlib.Core.Path.{ap, _∙_}
+use Rattle.desk.specs.Parts.{asPage}
+use Rattle.desk.specs.Places.{sameKey}
+use Rattle.lawful.specs.Each.{unused-made}
 use borrow.Author.Needs.{needs}
 use Rattle.lawful.proofs.unused_right.Statement.{statement}
 use Rattle.lawful.proofs.unused_right.Tie as tie
 
 returns : tie.Need-returns
-returns c = rw (ne-eqb _ _ (c .if1 .taken))
-
-returns-2 : tie.Need-returns-2
-returns-2 c = rw (eq-eqb _ _ (c .before .before .if1 .left), ne-eqb _ _ (c .if2 .taken))
-
-returns-3 : tie.Need-returns-3
-returns-3 c = rw (eq-eqb _ _ (c .before .before .before .before .if1 .left), eq-eqb _ _ (c .before .before .if2 .left), ne-eqb _ _ (c .if3 .taken))
-
-returns-4 : tie.Need-returns-4
-returns-4 c =
-    rw (
-      eq-eqb _ _ (c .before .before .before .before .before .before .before .before .if1 .left),
-      eq-eqb _ _
-          (c .before .before .before .before .before .before .if2 .left),
-      eq-eqb _ _ (c .before .before .before .before .if3 .left),
-      sym
-          (c .before .zero-from .ensures) ∙ not-true _ (c .if4 .taken),
-    )
-
-returns-5 : tie.Need-returns-5
-returns-5 c =
-    rw (
-      eq-eqb _ _ (c .before .before .before .before .before .before .before .before .before .before .before .if1 .left),
-      eq-eqb _ _
-          (c .before .before .before .before .before .before .before .before .before .if2 .left),
-      eq-eqb _ _
-          (c .before .before .before .before .before .before .before .if3 .left),
-      sym (c .before .before .before .before .zero-from .ensures) ∙ not-false _
-          (c .before .before .before .if4 .left),
-    ) (c .zero-from2 .ensures)
+returns c =
+    let a = c .before .before .before .before .before .before .before .args in
+    unused-made (asPage (a .p) (a .table .now) (a .last .now)) _ _ _ (c .before .before .before .same-key .ensures ∙ ap (sameKey (a .p .key))
+    (c .before .before .before .before .no-key .ensures))
+    (c .before .is-low .ensures) (c .is-low2 .ensures)
 
 pub unused-right-spec : {M : Type 1} → statement M
 unused-right-spec =
-    tie.close (tie.spec returns returns-2 returns-3 (λ c. search needs) (λ c κs. search needs) returns-4 (λ c. search needs) (λ c κs. search needs)
-    returns-5)
+    tie.close
+    (tie.spec (λ c κs. search needs) (λ c κs. search needs) (λ c κs. search needs) (λ c κs. search needs) returns)

@@ -7,6 +7,7 @@ use borrow.Author.Needs.{needs}
 use mathlib.Core.Bool.{true, false, _&&_}
 use lib.ListN.{length, take}
 use lib.Seq.{length-take-le}
+use Rattle.limits.specs.Limits.{maxRows}
 use Rattle.reader.specs.ReadRow.{matches}
 use Rattle.reader.specs.Ends.{read-done, read-damaged, read-nothing, fits-when, fits-not, as-compared, counted}
 use Rattle.reader.proofs.read_band.Statement.{statement}
@@ -19,7 +20,7 @@ mul-length : tie.Need-mul-length
 mul-length c =
     omega (
       arith,
-      mul-le-mul-right {m = c .before .before .before .args .rows} {n = 64} (c .row-bytes .result) (c .before .before .before .pre .3),
+      mul-le-mul-right {m = c .before .before .before .args .rows} {n = maxRows} (c .row-bytes .result) (c .before .before .before .pre .3),
       c .row-bytes .ensures,
       c .before .before .before .pre .1,
     )

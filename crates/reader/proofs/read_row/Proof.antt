@@ -181,7 +181,8 @@ read-pel-requires c κs =
     let l = c .before .before .before .before .before .before .before .loop in
     let p = c .before .before .before .before .before .before .before .before .before .before .before .before .before .before .pre in
     let i = l .inv .0 in
-    (i .ready, i .lawful _, omega (arith, i .count, i .passed, p .0, p .5), i .within, i .near, i .small)
+    let t = c .before .before .before .before .before .before .loop-test .taken in
+    (i .ready, i .lawful _, omega (arith, i .count, t, p .0, p .5), i .within, i .near, i .small)
 
 element-write-table : tie.Need-element-write-table Inv-loop μ-loop
 element-write-table c =
@@ -196,7 +197,9 @@ match-two-requires c κs =
     let i = c .before .before .before .before .before .before .before .before .before .before .before .before .loop .inv .0 in
     let p = c .before .before .before .before .before .before .before .before .before .before .before .before .before .before .before .before
     .before .before .before .pre in
-    (omega (arith, i .place, i .few, i .passed, p .0, p .6), c .before .before .before .before .read-pel .ensures .pelled .few)
+    let t = c .before .before .before .before .before .before .before .before .before .before .before .loop-test .taken in
+    let n = c .before .before .before .before .read-pel .ensures .pelled .few in
+    (n, omega (arith, i .place, i .few, t, n, p .0, p .6))
 
 add-at : tie.Need-add-at Inv-loop μ-loop
 add-at c =

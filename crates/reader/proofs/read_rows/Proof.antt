@@ -6,13 +6,15 @@ use native.Mathlib.Numerals.{add-one}
 use native.Mathlib.Omega.{arith}
 use borrow.Author.Needs.{needs}
 use lib.ListN.{length}
+use Rattle.limits.specs.Limits.{maxRows, lastBytes}
 use Rattle.reader.specs.Reads.{BandRead, reads-start, reads-again, next-room}
 use Rattle.reader.proofs.read_rows.Statement.{statement}
 use Rattle.reader.proofs.read_rows.Tie as tie
 
 abbrev Inv-loop : tie.InvT-loop
 Inv-loop width rows code out₀ bytes above₀ reading₀ y₀ out above reading y =
-    (y ≤ rows) × (length out ≡ length out₀) × (length above ≡ 256) × BandRead width above₀ code (reading₀ .table .entries) out₀ above reading out y
+    (y ≤ rows) × (length out ≡ length out₀) × (length above ≡ lastBytes)
+    × BandRead width above₀ code (reading₀ .table .entries) out₀ above reading out y
 
 abbrev μ-loop : tie.MeasureT-loop
 μ-loop width rows code out₀ bytes above₀ reading₀ y₀ out above reading y = rows - y
@@ -34,7 +36,7 @@ loop-holds : tie.Need-loop-holds Inv-loop μ-loop
 loop-holds c =
     let q = c .before .before .before .before .before .pre in
     let v = c .start2 in
-    let n : length (c .before .before .before .before .before .args .last) ≡ 256 = search needs in (
+    let n : length (c .before .before .before .before .before .args .last) ≡ lastBytes = search needs in (
       omega arith,
       refl,
       n,
@@ -53,20 +55,14 @@ read-row-requires : tie.Need-read-row-requires Inv-loop μ-loop
 read-row-requires c κs =
     let q = c .before .before .before .before .before .before .before .before .pre in
     let b = c .before .before .loop .inv .3 in
-    let y = c .before .before .loop .inv .0 in (
+    let t = c .before .loop-test .taken in (
       q .1,
       omega (arith, c .before .before .loop .inv .2, q .1),
       q .0,
       b .lawful,
       b .ready,
-      omega (arith, b .count, y, q .2),
-      omega (
-        arith,
-        b .place,
-        b .few,
-        y,
-        q .2,
-      ),
+      omega (arith, b .count, t, q .2),
+      omega (arith, b .place, b .few, t, q .2),
       b .within,
       b .near,
       b .small,
@@ -84,7 +80,7 @@ mul-put-row c =
     (c .before .before .before .before .before .loop-test .taken) (rw (m .ensures) (q .3)) in omega (
       arith,
       mul-le-mul-right {m =
-          c .before .before .before .before .before .before .loop .y} {n = 64} (m .result) (omega (
+          c .before .before .before .before .before .before .loop .y} {n = maxRows} (m .result) (omega (
             arith,
             c .before .before .before .before .before .loop-test .taken,
             q .2,

@@ -5,6 +5,7 @@ use native.Mathlib.Numerals.{add-one}
 use native.Mathlib.Omega.{arith}
 use borrow.Author.Needs.{needs}
 use lib.ListN.{length}
+use Rattle.limits.specs.Limits.{lastBytes}
 use lib.Seq.{paste, paste-zero, paste-suc, length-paste}
 use Rattle.store.proofs.put_row.Statement.{statement}
 use Rattle.store.proofs.put_row.Tie as tie
@@ -29,7 +30,12 @@ add-out c = omega arith
 
 -- src/lib.rt:71:9
 slice-write-out : tie.Need-slice-write-out Inv-loop μ-loop
-slice-write-out c = let n : length (c .before .before .args .t3) ≡ 256 = search needs in let e = ap length (c .before .loop .inv .1) ∙ length-paste (c .before .before .args .out .now) (c .before .before .args .from) (c .before .before .args .t3) (c .before .loop .i) (omega arith) (omega arith) in omega arith
+slice-write-out c =
+    let a = c .before .before .args in
+    let l = c .before .loop in
+    let n : length (a .t3) ≡ lastBytes = search needs in
+    let e = ap length (l .inv .1) ∙ length-paste (a .out .now) (a .from) (a .t3) (l .i) (omega arith) (omega arith) in
+    omega arith
 
 -- src/lib.rt:72:9
 add-i : tie.Need-add-i Inv-loop μ-loop
@@ -41,11 +47,20 @@ loop-less c = omega arith
 
 -- src/lib.rt:70:5
 loop-again : tie.Need-loop-again Inv-loop μ-loop
-loop-again c = let n : length (c .before .before .args .t3) ≡ 256 = search needs in (omega arith, rw (add-one, c .before .loop .inv .1) (paste-suc (c .before .before .args .out .now) (c .before .before .args .from) (c .before .before .args .t3) (c .before .loop .i) 0 (omega arith) (omega arith)))
+loop-again c =
+    let a = c .before .before .args in
+    let l = c .before .loop in
+    let n : length (a .t3) ≡ lastBytes = search needs in
+    (omega arith, rw (add-one, l .inv .1) (paste-suc (a .out .now) (a .from) (a .t3) (l .i) 0 (omega arith) (omega arith)))
 
 -- src/lib.rt:65:1
 same-length : tie.Need-same-length Inv-loop μ-loop
-same-length c = let n : length (c .before .before .args .t3) ≡ 256 = search needs in let e = ap length (c .before .loop .inv .1) ∙ length-paste (c .before .before .args .out .now) (c .before .before .args .from) (c .before .before .args .t3) (c .before .loop .i) (omega arith) (omega arith) in e
+same-length c =
+    let a = c .before .before .args in
+    let l = c .before .loop in
+    let n : length (a .t3) ≡ lastBytes = search needs in
+    let e = ap length (l .inv .1) ∙ length-paste (a .out .now) (a .from) (a .t3) (l .i) (omega arith) (omega arith) in
+    e
 
 -- src/lib.rt:65:1
 returns : tie.Need-returns Inv-loop μ-loop

@@ -1,4 +1,4 @@
--- `Table::fresh` is the repeated array of 128 zero bytes. Assumes nothing.
+-- `Table::fresh` is the repeated array of zero bytes. Assumes nothing.
 use mathlib.Core.Path.{refl}
 use Rattle.estimate.specs.Estimate.{fresh}
 use Rattle.estimate.proofs.Table.fresh.Statement.{statement}

@@ -1,0 +1,17 @@
+-- Where the parts of a desk stand among its bytes, counted from the limits. Assumes nothing.
+use Prim.Native.Nat.{ℕ, _+_, _*_}
+use Rattle.limits.specs.Limits.{maxPages, maxPlaces, contexts, lastBytes}
+
+-- The book stands first: a page's line is four numbers of eight bytes, a place's line is three.
+abbrev pub workingAt : ℕ
+workingAt = maxPages * 32 + maxPlaces * 24
+
+abbrev pub rowsAt : ℕ
+rowsAt = workingAt + maxPages * contexts
+
+abbrev pub learnedAt : ℕ
+learnedAt = rowsAt + maxPages * lastBytes
+
+-- the bytes of a desk
+abbrev pub deskBytes : ℕ
+deskBytes = learnedAt + maxPlaces * contexts
