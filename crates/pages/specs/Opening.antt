@@ -82,20 +82,20 @@ module _ (p : Parts) (ask : Opening) (n : ℕ) (first : n ≡ early (lawful (des
   module _ (z : n ≡ 0) where
     pub open-opened : isFound (pageFound d (ask .key)) ≡ true → number readBack d (opens ask) ≡ 3
     unfolding number tests stand
-    open-opened o = early-past d (ask .key) (within 1 (ask .width) maxWidth) n first z .rest _ ∙ here _ _ (found-page d (pageFound d (ask .key)) ∙ o)
+    open-opened o = early-past d (ask .key) (within 1 (ask .width) maxWidth) n first z _ ∙ here _ _ (found-page d (pageFound d (ask .key)) ∙ o)
 
     module _ (o : isFound (pageFound d (ask .key)) ≡ false) where
       pub open-pages : freePageFound d ≡ Nothing → number readBack d (opens ask) ≡ 4
       unfolding number tests stand
       open-pages f =
-          early-past d (ask .key) (within 1 (ask .width) maxWidth) n first z .rest _ ∙ past _ _ (found-page d (pageFound d (ask .key)) ∙ o)
+          early-past d (ask .key) (within 1 (ask .width) maxWidth) n first z _ ∙ past _ _ (found-page d (pageFound d (ask .key)) ∙ o)
           ∙ here _ _ (ap (λ (x : Found). not (isFound x)) f)
 
       module _ (i : ℕ) (f : freePageFound d ≡ At i) where
         left : number readBack d (opens ask) ≡ refusal (row 5 (not (isFound (tableFound d (ask .key))) && not (isFound (freePlaceFound d))) ∷ [])
         unfolding number tests stand
         left =
-            early-past d (ask .key) (within 1 (ask .width) maxWidth) n first z .rest _ ∙ past _ _ (found-page d (pageFound d (ask .key)) ∙ o)
+            early-past d (ask .key) (within 1 (ask .width) maxWidth) n first z _ ∙ past _ _ (found-page d (pageFound d (ask .key)) ∙ o)
             ∙ past _ _ (ap (λ (x : Found). not (isFound x)) f)
             ∙ ap (λ b. refusal (row 5 (not b && not (isFound (freePlaceFound d))) ∷ [])) (found-table d (tableFound d (ask .key)))
 

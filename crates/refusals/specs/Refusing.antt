@@ -91,16 +91,9 @@ module _ (d : Desk) (k : Key) (sized : Bool) where
         go false k s m h = refl
 
     -- where the call goes on
-    pub record Early : Type 0 where
-      pub good : lawful d ≡ true
-      pub fits : sized ≡ true
-      pub rest : (rs : List Row) → refusal (front rs) ≡ refusal rs
-
-    pub early-past : n ≡ 0 → Early
+    pub early-past : n ≡ 0 → (rest : List Row) → refusal (front rest) ≡ refusal rest
     unfolding refusal stand
-    early-past z =
-        let p = go (lawful d) (lawfulKey k) sized (sym first ∙ z) in
-        record { good = p .0; fits = p .2; rest = λ rs. rw (p .0, p .1, p .2) }
+    early-past z rest = let p = go (lawful d) (lawfulKey k) sized (sym first ∙ z) in rw (p .0, p .1, p .2)
       where
         go : (g k s : Bool) → early g k s ≡ 0 → (g ≡ true) × (k ≡ true) × (s ≡ true)
         go true true true e = (refl, refl, refl)

@@ -59,7 +59,7 @@ module _ (d : Desk) (k : Key) (n : ℕ) (first : n ≡ early (lawful d) (lawfulK
 
   module _ (z : n ≡ 0) where
     drops-on : number readBack d (drops k) ≡ refusal (dropRows d k)
-    drops-on = drop-number d k ∙ early-past d k true n first z .rest (dropRows d k)
+    drops-on = drop-number d k ∙ early-past d k true n first z (dropRows d k)
 
     pub drop-opened : isFound (pageFound d k) ≡ true → number readBack d (drops k) ≡ 3
     drop-opened o = drops-on ∙ here _ _ (found-page d (pageFound d k) ∙ o)
@@ -77,7 +77,7 @@ module _ (d : Desk) (k : Key) (n : ℕ) (first : n ≡ early (lawful d) (lawfulK
 
     module _ (z : n ≡ 0) where
       looks-on : number readBack d (looks k out) ≡ refusal (lookRows d k out)
-      looks-on = look-number d k out ∙ early-past d k true n first z .rest (lookRows d k out)
+      looks-on = look-number d k out ∙ early-past d k true n first z (lookRows d k out)
 
       pub look-untaught : tableFound d k ≡ Nothing → number readBack d (looks k out) ≡ 11
       look-untaught t = looks-on ∙ here _ _ (ap not (found-table d (tableFound d k) ∙ ap isFound t))
