@@ -190,60 +190,35 @@ fn code_line<'a, 'b, 'c>(
     wrote.book
 }
 
-// Two schools have a class of the same number; each page has its own table and last row.
-fn two_schools() {
-    let mut working = [[0u8; CONTEXTS]; PAGES];
-    let mut rows = [[0u8; ROW]; PAGES];
-    let mut learned = [[0u8; CONTEXTS]; PLACES];
+// An empty desk on which two classes of the same number, of two schools, have been opened.
+fn both_opened<'a>(
+    working: &'a mut [[u8; CONTEXTS]; PAGES],
+    rows: &'a mut [[u8; ROW]; PAGES],
+    learned: &'a mut [[u8; CONTEXTS]; PLACES],
+) -> Book
+    ensures { λ _. ⌜ Sized (now (working .exit)) (now (rows .exit)) (now (learned .exit)) ⌝ }
+{
+    let book = desk::emptied(working, rows, learned);
+    let a = pages::open(book, working, rows, learned, page_of(key_of(1, 5), 1));
+    line(b"School 1, class 5 opened", a.answer);
+    let b = pages::open(a.book, working, rows, learned, page_of(key_of(2, 5), 1));
+    line(b"School 2, class 5 opened beside it", b.answer);
+    b.book
+}
+
+// Each of the two pages has its own table and last row.
+fn two_schools<'a>(
+    working: &'a mut [[u8; CONTEXTS]; PAGES],
+    rows: &'a mut [[u8; ROW]; PAGES],
+    learned: &'a mut [[u8; CONTEXTS]; PLACES],
+) {
     let one = key_of(1, 5);
     let two = key_of(2, 5);
-    let book = desk::emptied(&mut working, &mut rows, &mut learned);
-    let a = pages::open(book, &mut working, &mut rows, &mut learned, page_of(one, 1));
-    line(b"School 1, class 5 opened", a.answer);
-    let b = pages::open(
-        a.book,
-        &mut working,
-        &mut rows,
-        &mut learned,
-        page_of(two, 1),
-    );
-    line(b"School 2, class 5 opened beside it", b.answer);
-    let c = code_line(
-        b"P2 by school 1",
-        b.book,
-        &mut working,
-        &mut rows,
-        &mut learned,
-        one,
-        b"\x80",
-    );
-    let d = code_line(
-        b"P1 by school 2",
-        c,
-        &mut working,
-        &mut rows,
-        &mut learned,
-        two,
-        b"\x00",
-    );
-    let e = code_line(
-        b"P9 by school 1",
-        d,
-        &mut working,
-        &mut rows,
-        &mut learned,
-        one,
-        b"\x80",
-    );
-    code_line(
-        b"P7 by school 2",
-        e,
-        &mut working,
-        &mut rows,
-        &mut learned,
-        two,
-        b"\x00",
-    );
+    let a = both_opened(working, rows, learned);
+    let b = code_line(b"P2 by school 1", a, working, rows, learned, one, b"\x80");
+    let c = code_line(b"P1 by school 2", b, working, rows, learned, two, b"\x00");
+    let d = code_line(b"P9 by school 1", c, working, rows, learned, one, b"\x80");
+    code_line(b"P7 by school 2", d, working, rows, learned, two, b"\x00");
 }
 
 // The page is closed, and its class's table looked at.
@@ -265,54 +240,25 @@ fn look_line<'a, 'b>(
     lines::put_text(b"\n");
 }
 
-fn looks() {
-    let mut working = [[0u8; CONTEXTS]; PAGES];
-    let mut rows = [[0u8; ROW]; PAGES];
-    let mut learned = [[0u8; CONTEXTS]; PLACES];
-    let one = band_of(key_of(1, 1), 1);
+fn looks<'a>(
+    working: &'a mut [[u8; CONTEXTS]; PAGES],
+    rows: &'a mut [[u8; ROW]; PAGES],
+    learned: &'a mut [[u8; CONTEXTS]; PLACES],
+) {
+    let ask = band_of(key_of(1, 1), 1);
     let mut out = [0u8; 8];
-    let a = new_page(&mut working, &mut rows, &mut learned);
-    let p1 = bands::write(
-        a,
-        &mut working,
-        &mut rows,
-        &mut learned,
-        one,
-        b"\x00",
-        &mut out,
-    );
-    look_line(
-        b"Look after P1 and close",
-        p1.book,
-        &mut working,
-        &mut rows,
-        &mut learned,
-    );
-    let b = new_page(&mut working, &mut rows, &mut learned);
-    let p2 = bands::write(
-        b,
-        &mut working,
-        &mut rows,
-        &mut learned,
-        one,
-        b"\x80",
-        &mut out,
-    );
-    let p9 = bands::write(
-        p2.book,
-        &mut working,
-        &mut rows,
-        &mut learned,
-        one,
-        b"\x80",
-        &mut out,
-    );
+    let a = new_page(working, rows, learned);
+    let p1 = bands::write(a, working, rows, learned, ask, b"\x00", &mut out);
+    look_line(b"Look after P1 and close", p1.book, working, rows, learned);
+    let b = new_page(working, rows, learned);
+    let p2 = bands::write(b, working, rows, learned, ask, b"\x80", &mut out);
+    let p9 = bands::write(p2.book, working, rows, learned, ask, b"\x80", &mut out);
     look_line(
         b"Look after P2, P9 and close",
         p9.book,
-        &mut working,
-        &mut rows,
-        &mut learned,
+        working,
+        rows,
+        learned,
     );
 }
 
@@ -329,6 +275,9 @@ fn main() {
     buffer_line(b"P1 into 2 bytes", &mut both);
     let mut short = [255u8; 1];
     buffer_line(b"P1 into 1 byte", &mut short);
-    two_schools();
-    looks();
+    let mut working = [[0u8; CONTEXTS]; PAGES];
+    let mut rows = [[0u8; ROW]; PAGES];
+    let mut learned = [[0u8; CONTEXTS]; PLACES];
+    two_schools(&mut working, &mut rows, &mut learned);
+    looks(&mut working, &mut rows, &mut learned);
 }
