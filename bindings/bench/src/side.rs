@@ -5,11 +5,16 @@ use siftpebble_model::Direction;
 
 pub const SCHOOL: u64 = 1;
 
-/// A desk, and the calls that are measured. Each must be accepted.
+/// A desk, and the calls that are measured. Each must be accepted, but for the
+/// one that is refused by its name.
 pub trait Side {
     fn copy(&self) -> Box<dyn Side>;
     fn open(&mut self, class: u64, direction: Direction, width: u64);
     fn close(&mut self, class: u64);
+    /// A close where no page is open (2).
+    fn refused_close(&mut self, class: u64);
+    /// Shows a learned table in the front of the output.
+    fn look(&mut self, class: u64, out: &mut [u8]);
     /// Answers the code's length.
     fn write(&mut self, class: u64, rows: u64, pels: &[u8], out: &mut [u8]) -> usize;
     fn read(&mut self, class: u64, rows: u64, code: &[u8], out: &mut [u8]);
@@ -34,6 +39,15 @@ impl Side for siftpebble::Desk {
 
     fn close(&mut self, class: u64) {
         siftpebble::Desk::close(self, key(class)).expect("an open page");
+    }
+
+    fn refused_close(&mut self, class: u64) {
+        let answer = siftpebble::Desk::close(self, key(class));
+        assert_eq!(answer, Err(siftpebble::Refusal::NoPage));
+    }
+
+    fn look(&mut self, class: u64, out: &mut [u8]) {
+        siftpebble::Desk::look(self, key(class), out).expect("a table");
     }
 
     fn write(&mut self, class: u64, rows: u64, pels: &[u8], out: &mut [u8]) -> usize {
@@ -63,6 +77,15 @@ impl Side for siftpebble_model::Desk {
 
     fn close(&mut self, class: u64) {
         siftpebble_model::Desk::close(self, model_key(class)).expect("an open page");
+    }
+
+    fn refused_close(&mut self, class: u64) {
+        let answer = siftpebble_model::Desk::close(self, model_key(class));
+        assert_eq!(answer, Err(siftpebble_model::Refusal::NoPage));
+    }
+
+    fn look(&mut self, class: u64, out: &mut [u8]) {
+        siftpebble_model::Desk::look(self, model_key(class), out).expect("a table");
     }
 
     fn write(&mut self, class: u64, rows: u64, pels: &[u8], out: &mut [u8]) -> usize {
