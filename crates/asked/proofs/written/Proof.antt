@@ -1,7 +1,7 @@
--- The call's own contract, of the key that the two numbers are. Assumes nothing.
+-- The call's own contract, of what the numbers ask. Assumes nothing.
 use borrow.Author.Needs.{needs}
-use Rattle.counter.proofs.written.Statement.{statement}
-use Rattle.counter.proofs.written.Tie as tie
+use Rattle.asked.proofs.written.Statement.{statement}
+use Rattle.asked.proofs.written.Tie as tie
 
 asked : tie.Need-write-requires
 asked c κs = c .before .before .before .before .before .before .pre
