@@ -1,8 +1,7 @@
 // The limits of document 01, on both sides of each: what is asked, then the answer's number, length and S.
-ghost use Rattle.desk.specs.Parts.{Sized};
+ghost use Rattle.parts.specs.Parts.{Sized};
 use desk::Answer;
 use desk::Ask;
-use desk::Book;
 use desk::Direction;
 use desk::Key;
 use desk::Opening;
@@ -10,6 +9,7 @@ use limits::CONTEXTS;
 use limits::PAGES;
 use limits::PLACES;
 use limits::ROW;
+use parts::Book;
 
 // The contexts whose byte is not 00.
 fn put_contexts(table: &[u8]) {
@@ -60,9 +60,9 @@ fn width_line(name: &[u8], width: u64) {
     let mut working = [[0u8; CONTEXTS]; PAGES];
     let mut rows = [[0u8; ROW]; PAGES];
     let mut learned = [[0u8; CONTEXTS]; PLACES];
-    let book = desk::emptied(&mut working, &mut rows, &mut learned);
+    let book = parts::emptied(&mut working, &mut rows, &mut learned);
     let ask = page_of(key_of(1, 1), width);
-    let opened = pages::open(book, &mut working, &mut rows, &mut learned, ask);
+    let opened = opening::open(book, &mut working, &mut rows, &mut learned, ask);
     line(name, opened.answer);
 }
 
@@ -74,8 +74,8 @@ fn new_page<'a>(
 ) -> Book
     ensures { λ _. ⌜ Sized (now (working .exit)) (now (rows .exit)) (now (learned .exit)) ⌝ }
 {
-    let book = desk::emptied(working, rows, learned);
-    let opened = pages::open(book, working, rows, learned, page_of(key_of(1, 1), 1));
+    let book = parts::emptied(working, rows, learned);
+    let opened = opening::open(book, working, rows, learned, page_of(key_of(1, 1), 1));
     opened.book
 }
 
@@ -89,7 +89,7 @@ fn rows_line(name: &[u8], count: u64) {
     let mut out = [0u8; 64];
     let ask = band_of(key_of(1, 1), count);
     let band = store::front_of(&pels, count as usize);
-    let wrote = bands::write(
+    let wrote = writing::write(
         book,
         &mut working,
         &mut rows,
@@ -111,14 +111,14 @@ fn with_classes<'a>(
 ) -> Book
     ensures { λ _. ⌜ Sized (now (working .exit)) (now (rows .exit)) (now (learned .exit)) ⌝ }
 {
-    let mut book = desk::emptied(working, rows, learned);
+    let mut book = parts::emptied(working, rows, learned);
     let mut i: u64 = 0;
     while i < n {
         i += 1;
-        let opened = pages::open(book, working, rows, learned, page_of(key_of(1, i), 1));
+        let opened = opening::open(book, working, rows, learned, page_of(key_of(1, i), 1));
         book = opened.book;
         if closed {
-            let gone = pages::close(book, working, rows, learned, key_of(1, i));
+            let gone = closing::close(book, working, rows, learned, key_of(1, i));
             book = gone.book;
         }
     }
@@ -132,7 +132,7 @@ fn one_more(name: &[u8], n: u64, closed: bool) {
     let mut learned = [[0u8; CONTEXTS]; PLACES];
     let book = with_classes(&mut working, &mut rows, &mut learned, n, closed);
     let ask = page_of(key_of(1, 100), 1);
-    let opened = pages::open(book, &mut working, &mut rows, &mut learned, ask);
+    let opened = opening::open(book, &mut working, &mut rows, &mut learned, ask);
     line(name, opened.answer);
 }
 
@@ -143,7 +143,7 @@ fn buffer_line(name: &[u8], out: &mut [u8]) {
     let mut learned = [[0u8; CONTEXTS]; PLACES];
     let book = new_page(&mut working, &mut rows, &mut learned);
     let ask = band_of(key_of(1, 1), 1);
-    let wrote = bands::write(
+    let wrote = writing::write(
         book,
         &mut working,
         &mut rows,
@@ -173,7 +173,7 @@ fn code_line<'a, 'b, 'c>(
     ensures { λ _. ⌜ Sized (now (working .exit)) (now (rows .exit)) (now (learned .exit)) ⌝ }
 {
     let mut out = [0u8; 8];
-    let wrote = bands::write(
+    let wrote = writing::write(
         book,
         working,
         rows,
@@ -198,10 +198,10 @@ fn both_opened<'a>(
 ) -> Book
     ensures { λ _. ⌜ Sized (now (working .exit)) (now (rows .exit)) (now (learned .exit)) ⌝ }
 {
-    let book = desk::emptied(working, rows, learned);
-    let a = pages::open(book, working, rows, learned, page_of(key_of(1, 5), 1));
+    let book = parts::emptied(working, rows, learned);
+    let a = opening::open(book, working, rows, learned, page_of(key_of(1, 5), 1));
     line(b"School 1, class 5 opened", a.answer);
-    let b = pages::open(a.book, working, rows, learned, page_of(key_of(2, 5), 1));
+    let b = opening::open(a.book, working, rows, learned, page_of(key_of(2, 5), 1));
     line(b"School 2, class 5 opened beside it", b.answer);
     b.book
 }
@@ -232,7 +232,7 @@ fn look_line<'a, 'b>(
     requires { ⌜ Sized (now working) (now rows) (now learned) ⌝ }
 {
     let mut out = [255u8; CONTEXTS];
-    let closed = pages::close(book, working, rows, learned, key_of(1, 1));
+    let closed = closing::close(book, working, rows, learned, key_of(1, 1));
     let seen = tables::look(closed.book, working, rows, learned, key_of(1, 1), &mut out);
     lines::put_text(name);
     lines::put_answer(seen.answer);
@@ -248,11 +248,11 @@ fn looks<'a>(
     let ask = band_of(key_of(1, 1), 1);
     let mut out = [0u8; 8];
     let a = new_page(working, rows, learned);
-    let p1 = bands::write(a, working, rows, learned, ask, b"\x00", &mut out);
+    let p1 = writing::write(a, working, rows, learned, ask, b"\x00", &mut out);
     look_line(b"Look after P1 and close", p1.book, working, rows, learned);
     let b = new_page(working, rows, learned);
-    let p2 = bands::write(b, working, rows, learned, ask, b"\x80", &mut out);
-    let p9 = bands::write(p2.book, working, rows, learned, ask, b"\x80", &mut out);
+    let p2 = writing::write(b, working, rows, learned, ask, b"\x80", &mut out);
+    let p9 = writing::write(p2.book, working, rows, learned, ask, b"\x80", &mut out);
     look_line(
         b"Look after P2, P9 and close",
         p9.book,

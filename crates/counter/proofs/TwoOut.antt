@@ -45,17 +45,17 @@ use denote.Triple.Walked.{says, Stays, stay-ref, stay-dropped, gave-slice, walkO
 use denote.Triple.Walked.{Walks, ends-at, walked, walk-meets}
 use denote.Exit.{yes}
 use Rattle.limits.specs.Limits.{maxPages, maxPlaces, contexts, lastBytes}
-use Rattle.desk.specs.Parts.{partsOf, Sized}
+use Rattle.parts.specs.Parts.{partsOf, Sized}
 use Rattle.desk.specs.declared.Answer.{Answer}
-use Rattle.desk.specs.declared.Book.{Book}
-use Rattle.desk.specs.declared.Parts.{Parts}
-use Rattle.desk.specs.declared.Reply.{Reply}
-use Rattle.desk.proofs.Parts as T
-use Rattle.desk.proofs.Parts.Laws as T′
-use Rattle.desk.proofs.Book as B
-use Rattle.desk.proofs.Book.Laws as B′
-use Rattle.desk.proofs.Reply as R
-use Rattle.desk.proofs.Reply.Laws as R′
+use Rattle.parts.specs.declared.Book.{Book}
+use Rattle.parts.specs.declared.Parts.{Parts}
+use Rattle.parts.specs.declared.Reply.{Reply}
+use Rattle.parts.proofs.Parts as T
+use Rattle.parts.proofs.Parts.Laws as T′
+use Rattle.parts.proofs.Book as B
+use Rattle.parts.proofs.Book.Laws as B′
+use Rattle.parts.proofs.Reply as R
+use Rattle.parts.proofs.Reply.Laws as R′
 use Rattle.desk.proofs.Answer as N
 use Rattle.desk.proofs.Answer.Laws as N′
 use Rattle.counter.specs.Layout.{workingAt, rowsAt, learnedAt}

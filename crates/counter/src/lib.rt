@@ -2,17 +2,17 @@
 ghost use mathlib.Core.Path.{_≡_};
 ghost use mathlib.Core.List.{[]};
 ghost use Rattle.desk.specs.Places.{emptyDesk};
-ghost use Rattle.desk.specs.Parts.{deskOf, Whole};
+ghost use Rattle.parts.specs.Parts.{deskOf, Whole};
 ghost use Rattle.desk.specs.Calls.{opens, writes, reads, closes, abandons, drops, looks};
-ghost use Rattle.desk.specs.Replies.{Serves};
-ghost use Rattle.asked.specs.Asked.{asKey, toWrite, toRead, askOf};
+ghost use Rattle.parts.specs.Replies.{Serves};
+ghost use Rattle.desk.specs.Asked.{asKey, toWrite, toRead, askOf};
 ghost use Rattle.counter.specs.Layout.{deskBytes};
 use desk::Answer;
-use desk::Parts;
 use limits::CONTEXTS;
 use limits::PAGES;
 use limits::PLACES;
 use limits::ROW;
+use parts::Parts;
 
 // ---- the calls over the lent desk: its book goes out and back by value, its arrays are lent in place
 // The bytes of a desk: a page has a line of 32, a table and a row; a place has a line of 24 and a table.
@@ -29,7 +29,7 @@ pub extern "C" fn siftpebble_desk_bytes() -> usize
 pub extern "C" fn siftpebble_empty(desk: &mut Parts)
     ensures { λ _. ⌜ (deskOf (now (desk .exit)) ≡ emptyDesk) × Whole (now (desk .exit)) ⌝ }
 {
-    let book = asked::emptied(&mut desk.working, &mut desk.rows, &mut desk.learned);
+    let book = asked_tables::emptied(&mut desk.working, &mut desk.rows, &mut desk.learned);
     desk.book = book;
 }
 
@@ -42,7 +42,7 @@ pub extern "C" fn siftpebble_open_write(
 ) -> Answer
     ensures { λ r. ⌜ Serves (now (desk .entry)) (opens (toWrite school class width)) r (now (desk .exit)) [] ⌝ }
 {
-    let r = asked::opened_to_write(
+    let r = asked_pages::opened_to_write(
         desk.book,
         &mut desk.working,
         &mut desk.rows,
@@ -64,7 +64,7 @@ pub extern "C" fn siftpebble_open_read(
 ) -> Answer
     ensures { λ r. ⌜ Serves (now (desk .entry)) (opens (toRead school class width)) r (now (desk .exit)) [] ⌝ }
 {
-    let r = asked::opened_to_read(
+    let r = asked_pages::opened_to_read(
         desk.book,
         &mut desk.working,
         &mut desk.rows,
@@ -81,7 +81,7 @@ pub extern "C" fn siftpebble_open_read(
 pub extern "C" fn siftpebble_close(desk: &mut Parts, school: u64, class: u64) -> Answer
     ensures { λ r. ⌜ Serves (now (desk .entry)) (closes (asKey school class)) r (now (desk .exit)) [] ⌝ }
 {
-    let r = asked::closed(
+    let r = asked_pages::closed(
         desk.book,
         &mut desk.working,
         &mut desk.rows,
@@ -97,7 +97,7 @@ pub extern "C" fn siftpebble_close(desk: &mut Parts, school: u64, class: u64) ->
 pub extern "C" fn siftpebble_abandon(desk: &mut Parts, school: u64, class: u64) -> Answer
     ensures { λ r. ⌜ Serves (now (desk .entry)) (abandons (asKey school class)) r (now (desk .exit)) [] ⌝ }
 {
-    let r = asked::abandoned(
+    let r = asked_pages::abandoned(
         desk.book,
         &mut desk.working,
         &mut desk.rows,
@@ -113,7 +113,7 @@ pub extern "C" fn siftpebble_abandon(desk: &mut Parts, school: u64, class: u64) 
 pub extern "C" fn siftpebble_drop(desk: &mut Parts, school: u64, class: u64) -> Answer
     ensures { λ r. ⌜ Serves (now (desk .entry)) (drops (asKey school class)) r (now (desk .exit)) [] ⌝ }
 {
-    let r = asked::forgotten(
+    let r = asked_tables::forgotten(
         desk.book,
         &mut desk.working,
         &mut desk.rows,
@@ -134,7 +134,7 @@ pub extern "C" fn siftpebble_look(
 ) -> Answer
     ensures { λ r. ⌜ Serves (now (desk .entry)) (looks (asKey school class) (now (out .entry))) r (now (desk .exit)) (now (out .exit)) ⌝ }
 {
-    let r = asked::looked(
+    let r = asked_tables::looked(
         desk.book,
         &mut desk.working,
         &mut desk.rows,
@@ -159,7 +159,7 @@ pub extern "C" fn siftpebble_write(
     ensures { λ r. ⌜ Serves (now (desk .entry)) (writes (askOf school class rows) (now (pels .entry)) (now (out .entry))) r (now (desk .exit))
         (now (out .exit)) ⌝ }
 {
-    let r = asked::written(
+    let r = asked_bands::written(
         desk.book,
         &mut desk.working,
         &mut desk.rows,
@@ -186,7 +186,7 @@ pub extern "C" fn siftpebble_read(
     ensures { λ r. ⌜ Serves (now (desk .entry)) (reads (askOf school class rows) (now (code .entry)) (now (out .entry))) r (now (desk .exit))
         (now (out .exit)) ⌝ }
 {
-    let r = asked::read(
+    let r = asked_bands::read(
         desk.book,
         &mut desk.working,
         &mut desk.rows,

@@ -1,7 +1,6 @@
 // Codes read as one row of width 1 on a new page: two are codes of a band, every other is damaged.
-ghost use Rattle.desk.specs.Parts.{Sized};
+ghost use Rattle.parts.specs.Parts.{Sized};
 use desk::Ask;
-use desk::Book;
 use desk::Direction;
 use desk::Key;
 use desk::Opening;
@@ -9,6 +8,7 @@ use limits::CONTEXTS;
 use limits::PAGES;
 use limits::PLACES;
 use limits::ROW;
+use parts::Book;
 
 fn the_key() -> Key {
     Key {
@@ -25,13 +25,13 @@ fn new_page<'a>(
 ) -> Book
     ensures { λ _. ⌜ Sized (now (working .exit)) (now (rows .exit)) (now (learned .exit)) ⌝ }
 {
-    let book = desk::emptied(working, rows, learned);
+    let book = parts::emptied(working, rows, learned);
     let ask = Opening {
         key: the_key(),
         direction: Direction::Read,
         width: 1,
     };
-    let opened = pages::open(book, working, rows, learned, ask);
+    let opened = opening::open(book, working, rows, learned, ask);
     opened.book
 }
 
@@ -52,7 +52,7 @@ fn line<'a, 'b, 'c>(
         key: the_key(),
         rows: 1,
     };
-    let read = bands::read(book, working, rows, learned, ask, code, &mut out);
+    let read = reading::read(book, working, rows, learned, ask, code, &mut out);
     lines::put_text(name);
     lines::put_bytes(code);
     lines::put_answer(read.answer);

@@ -6,13 +6,13 @@ use Prim.Native.Nat.{ℕ}
 use Rattle.band.specs.Band.{Finder, Reader}
 use Rattle.reader.specs.Reading.{reading, one-reader}
 use Rattle.desk.specs.declared.Answer.{Answer}
-use Rattle.desk.specs.declared.Parts.{Parts}
+use Rattle.parts.specs.declared.Parts.{Parts}
 use Rattle.desk.specs.Desk.{Desk, Outcome}
-use Rattle.desk.specs.Parts.{deskOf}
+use Rattle.parts.specs.Parts.{deskOf}
 use Rattle.desk.specs.Calls.{Call}
 use Rattle.desk.specs.Allowed.{outcome, lent, Allowed}
-use Rattle.desk.specs.Replies.{Serves}
-use Rattle.desk.specs.Lines.{same-parts}
+use Rattle.parts.specs.Replies.{Serves}
+use Rattle.parts.specs.Lines.{same-parts}
 use Rattle.serial.specs.Run.{Step, stepOf, step}
 
 -- ---- by whatever right reader

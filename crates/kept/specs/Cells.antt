@@ -15,7 +15,7 @@ use Rattle.desk.specs.declared.Found.the-variants.{At, Nothing}
 use Rattle.desk.specs.Places.{isUsed, isLearned, noPage, noPlace, sameKey, isPageOf, isTableOf, isFreePage, isFreePlace}
 use Rattle.desk.specs.Places.{pageFound, tableFound, freePageFound, freePlaceFound, isFound}
 use Rattle.desk.specs.Lawful.{lawfulPage, lawfulPlace}
-use Rattle.desk.specs.Finding.{found-page, found-table}
+use Rattle.desk.proofs.Standing.{found-page, found-table}
 use Rattle.desk.specs.Standing.{pageBy, tableBy, openPage, learnedTable}
 use Rattle.kept.specs.Lists.{pick, pick-passes, pick-all, found-given, valueAt, value-found}
 use Rattle.kept.specs.View.{K, shelves, page-read, page-free, place-free, table-read}

@@ -10,16 +10,16 @@ use lib.Seq.{getD-take, take-all}
 use Rattle.limits.specs.Limits.{maxWidth}
 use Rattle.template.specs.Pels.{rowBytes, rowPadded}
 use Rattle.desk.specs.declared.Key.{Key}
-use Rattle.desk.specs.declared.PageLine.{PageLine}
-use Rattle.desk.specs.declared.PlaceLine.{PlaceLine}
-use Rattle.desk.specs.declared.Sought.the-variants.{Used}
+use Rattle.parts.specs.declared.PageLine.{PageLine}
+use Rattle.parts.specs.declared.PlaceLine.{PlaceLine}
+use Rattle.parts.specs.declared.Sought.the-variants.{Used}
 use Rattle.desk.specs.Desk.{Page, Place, Desk}
 use Rattle.desk.specs.Places.{isUsed, noKey, sameKey, isPageOf, isPlaceOf, noPage, noPlace}
 use Rattle.desk.specs.Lawful.{within, all, any, apart, lawfulKey, lawfulTable, isZero, noStray, lawfulPage, lawfulPlace, samePages, samePlaces, pageHasPlace, placeHasPage, lawful}
-use Rattle.desk.specs.Finding.{pageSought, placeSought}
-use Rattle.desk.specs.Parts.{asPage, asPlace, pagesOf, placesOf}
-use Rattle.desk.specs.Beside.{any-map}
-use Rattle.desk.specs.Lines.{pageLineOf, placeLineOf, noPageLine, noPlaceLine, get-pages, get-places, lines-off, place-lines-off}
+use Rattle.parts.specs.Finding.{pageSought, placeSought}
+use Rattle.parts.specs.Parts.{asPage, asPlace, pagesOf, placesOf}
+use Rattle.parts.specs.Beside.{any-map}
+use Rattle.parts.specs.Lines.{pageLineOf, placeLineOf, noPageLine, noPlaceLine, get-pages, get-places, lines-off, place-lines-off}
 use Rattle.lawful.specs.Highest.{low, topEntry, entries-low, zero-low, table-low}
 use Rattle.lawful.specs.Loops.{each}
 

@@ -3,23 +3,23 @@ ghost use mathlib.Core.Path.{_≡_};
 ghost use Prim.Native.Nat.{_+_, _*_, _≤_, _<_};
 ghost use lib.ListN.{length, getD, drop};
 ghost use Rattle.limits.specs.Limits.{maxWidth, maxPages, maxPlaces, lastBytes};
-ghost use Rattle.desk.specs.Parts.{asPage, asPlace, pagesOf, placesOf, partsOf, deskOf, Sized, Whole};
-ghost use Rattle.desk.specs.Lines.{noPageLine, noPlaceLine};
+ghost use Rattle.parts.specs.Parts.{asPage, asPlace, pagesOf, placesOf, partsOf, deskOf, Sized, Whole};
+ghost use Rattle.parts.specs.Lines.{noPageLine, noPlaceLine};
 ghost use Rattle.desk.specs.Lawful.{within, lawfulKey, noStray, lawfulPage, lawfulPlace, lawful};
 ghost use Rattle.lawful.specs.Highest.{higher, highestFrom, low, topEntry};
 ghost use Rattle.lawful.specs.Loops.{each};
 ghost use Rattle.lawful.specs.Each.{openRight, unusedRight, pageKnown, placeKnown, pageRight, placeRight, hasPage, hasPlace};
-use desk::Book;
 use desk::Key;
-use desk::PageLine;
-use desk::PlaceLine;
-use desk::Sought;
 use limits::CONTEXTS;
 use limits::MAX_KEY;
 use limits::MAX_WIDTH;
 use limits::PAGES;
 use limits::PLACES;
 use limits::ROW;
+use parts::Book;
+use parts::PageLine;
+use parts::PlaceLine;
+use parts::Sought;
 
 // 2 × 29 + 1: the highest entry of a table.
 const MAX_ENTRY: u8 = 59;
@@ -93,7 +93,8 @@ fn open_right(p: PageLine, table: &[u8], last: &[u8]) -> bool
 fn unused_right(p: PageLine, table: &[u8], last: &[u8]) -> bool
     ensures { λ r. ⌜ r ≡ unusedRight (asPage p (now (table .entry)) (now (last .entry))) ⌝ }
 {
-    desk::same_key(p.key, desk::no_key()) & ((p.width == 0) & (is_low(table, 0) & is_low(last, 0)))
+    parts::same_key(p.key, parts::no_key())
+        & ((p.width == 0) & (is_low(table, 0) & is_low(last, 0)))
 }
 
 // By whether it is open.
@@ -123,7 +124,7 @@ fn lawful_place(q: PlaceLine, table: &[u8]) -> bool
 {
     let low = is_low(table, top_entry(q.state));
     if q.state == 0 {
-        return desk::same_key(q.key, desk::no_key()) & low;
+        return parts::same_key(q.key, parts::no_key()) & low;
     }
     (q.state <= 2) & (lawful_key(q.key) & low)
 }
@@ -132,14 +133,14 @@ fn lawful_place(q: PlaceLine, table: &[u8]) -> bool
 fn has_page(pages: [PageLine; PAGES], from: usize, key: Key) -> bool
     ensures { λ r. ⌜ r ≡ hasPage (drop from pages) key ⌝ }
 {
-    desk::is_found(desk::find_page(pages, from, Sought::Used(key)))
+    parts::is_found(parts::find_page(pages, from, Sought::Used(key)))
 }
 
 // Whether a place from that one on is under the key.
 fn has_place(places: [PlaceLine; PLACES], from: usize, key: Key) -> bool
     ensures { λ r. ⌜ r ≡ hasPlace (drop from places) key ⌝ }
 {
-    desk::is_found(desk::find_place(places, from, Sought::Used(key)))
+    parts::is_found(parts::find_place(places, from, Sought::Used(key)))
 }
 
 // An open page is alone under its key, and has its place.

@@ -15,7 +15,7 @@ use Rattle.template.specs.Packing.{Row}
 use Rattle.band.specs.Rows.{stageOf, pageOf, through, page-within, page-full}
 use Rattle.reader.specs.declared.Reading.{Reading}
 use Rattle.reader.specs.declared.Line.{Line}
-use Rattle.reader.specs.Views.{sightOf}
+use Rattle.sight.specs.Views.{sightOf}
 use Rattle.reader.specs.ReadRow.{matches, reads, RowRead}
 
 module _ (width : ℕ) (above code : List ℕ) (s : Reading) where

@@ -27,10 +27,10 @@ use Rattle.band.specs.Band.{qScheme, qWriter, qPage}
 use Rattle.band.specs.Rows.{Pelled, bytesOf, stageOf, pageOf, through, page-within, step-within, few-bytes, pelled-ready, pelled-count, pelled-lawful}
 use Rattle.interval.specs.Interval.{decision, partOf}
 use Rattle.band.specs.declared.Pel.{Pel}
-use Rattle.reader.specs.declared.View.{View}
-use Rattle.reader.specs.declared.Told.{Told}
+use Rattle.sight.specs.declared.View.{View}
+use Rattle.sight.specs.declared.Told.{Told}
 use Rattle.reader.specs.QCoder.{qReader}
-use Rattle.reader.specs.Views.{sightOf, ReadPel, taken-width}
+use Rattle.sight.specs.Views.{sightOf, ReadPel, taken-width}
 
 -- ---- the bytes settled, compared with the code; the very first, which is no part of it, is left out
 unfoldable pub matchAt : List ℕ → ℕ → ℕ → Bool

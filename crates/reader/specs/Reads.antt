@@ -23,7 +23,7 @@ use Rattle.band.specs.Rows.{stageOf, through, lift-behind}
 use Rattle.band.specs.Bands.{behind-through}
 use Rattle.reader.specs.declared.Reading.{Reading}
 use Rattle.reader.specs.declared.Line.{Line}
-use Rattle.reader.specs.Views.{sightOf}
+use Rattle.sight.specs.Views.{sightOf}
 use Rattle.reader.specs.ReadRow.{matches, matches-append, reads}
 use Rattle.reader.specs.Lines.{LineRead}
 use Rattle.reader.specs.ReadBand.{pels-grow, padded-grow, last-grow, front-size, front-pels, front-padded, front-octets, row-is}

@@ -1,69 +1,26 @@
--- Expected pels with no shift, as the reader's loop meets them: one, and a white run of them at once. Assumes nothing.
+-- A white run of expected pels with no shift, as the reader's loop meets it: all at once. Assumes nothing.
 use mathlib.Core.Path.{_≡_, refl, sym, ap, _∙_, subst}
-use Prim.Native.Nat.{ℕ, zero, suc, _+_, _-_, _*_, _/_, _%_, _^_, _≤_, _<_}
+use Prim.Native.Nat.{ℕ, suc, _+_, _-_, _*_, _/_, _%_, _^_, _≤_, _<_}
 use native.Mathlib.Nat.{zero-mul, add-mul, mul-le-mul-right}
 use native.Mathlib.Omega.{arith}
-use mathlib.Core.Bool.{Bool, true, false, not, _&&_}
-use borrow.Author.Tests.{le-ltb}
+use mathlib.Core.Bool.{Bool, false, _&&_}
 use mathlib.Core.List.{List}
-use lib.ListN.{getD, set, length}
+use lib.ListN.{getD, set}
 use lib.Seq.{set-getD}
-use Rattle.ground.specs.Tests.{if-ge}
 use Rattle.limits.specs.Limits.{maxWidth}
 use Rattle.estimate.specs.Estimate.{rowOf}
 use Rattle.octets.specs.declared.Coder.{Coder}
 use Rattle.octets.specs.Runs.{stillBy, still-more, still-none, in-steps}
-use Rattle.exact.specs.Sight.{Sight, nearer, supplied, seek, decide, above}
+use Rattle.exact.specs.Sight.{above}
 use Rattle.template.specs.Pels.{pelsTo, context}
 use Rattle.template.specs.declared.Window.{Window}
 use Rattle.template.specs.Window.{slid-context}
 use Rattle.template.specs.White.{Under, whiteWindow, slid-white}
 use Rattle.band.specs.declared.Pel.{Pel}
-use Rattle.band.specs.Rows.{Pelled, bytesOf, stillPel, pelled-still, pelled-quiet}
-use Rattle.reader.specs.declared.View.{View}
-use Rattle.reader.specs.declared.Told.{Told}
-use Rattle.reader.specs.Views.{sightOf, ReadPel}
+use Rattle.band.specs.Rows.{Pelled, bytesOf, pelled-quiet}
+use Rattle.sight.specs.declared.View.{View}
 use Rattle.reader.specs.ReadRow.{RowRead, matches, and-true, read-turn}
-
--- ---- what is in sight after expected pels with no shift, whose sizes add up to n
-abbrev pub viewBy : ℕ → View → View
-viewBy n v = record { x = v .x - n * 2 ^ v .look; look = v .look; last = v .last; at = v .at }
-
-view-none : (v : View) → viewBy 0 v ≡ v
-view-none v = λ i. record { x = z (v .x) (2 ^ v .look) i; look = v .look; last = v .last; at = v .at }
-  where
-    z : (x p : ℕ) → x - 0 * p ≡ x
-    z x p = omega arith
-
-view-more : (m n s : ℕ) (v : View) → m + n ≡ s → viewBy n (viewBy m v) ≡ viewBy s v
-view-more m n s v e = λ i. record { x = z (v .x) (2 ^ v .look) i; look = v .look; last = v .last; at = v .at }
-  where
-    z : (x p : ℕ) → x - m * p - n * p ≡ x - s * p
-    z x p = let f : s * p ≡ (m + n) * p = ap (λ (k : ℕ). k * p) (sym e) in let g : (m + n) * p ≡ m * p + n * p = add-mul m n p in omega arith
-
--- no byte is sought where the width stays 1000 hex or more
-seek-none : (n : ℕ) (r : Sight) → 4096 ≤ r .width → seek n r ≡ r
-unfolding seek
-seek-none zero r h = refl
-seek-none (suc n) r h = if-ge (r .width) 4096 (seek n (nearer (supplied r))) r h
-
--- ---- one pel: what is in sight says that it is the expected one, and nothing is read
-abbrev pub stillTold : Coder → View → ℕ → Told
-stillTold c v e = record { expected = true; p = e % 2; view = viewBy (rowOf e) v; pel = stillPel c e }
-
-pub told-still : (c : Coder) (v : View) (code : List ℕ) (e : ℕ) → 4096 + rowOf e ≤ c .interval .width → rowOf e * 2 ^ v .look ≤ v .x
-    → v .at ≤ length code → v .look ≤ 7 → v .x < 2 ^ 32 → ReadPel c v code e (stillTold c v e)
-unfolding decide
-told-still c v code e wide t a l s =
-    record {
-      asked = sym (ap not (le-ltb (v .x) (rowOf e * 2 ^ v .look) t));
-      told = refl;
-      pelled = pelled-still c e wide;
-      sight = sym (seek-none 12 (above (rowOf e) (sightOf v (c .interval .width) code)) (omega arith));
-      within = a;
-      near = l;
-      small = omega arith;
-    }
+use Rattle.sight.specs.Still.{viewBy, view-none, view-more, stillTold, told-still}
 
 -- nothing is compared after such a pel
 pub match-none : (c : Coder) (e : ℕ) (b : Bool) (u : Pel) (code : List ℕ) (at : ℕ) (good : Bool) → Pelled c e b u → u .moved ≡ false

@@ -1,2 +1,3 @@
 pub mod Stands
 pub mod Refusing
+pub mod Served

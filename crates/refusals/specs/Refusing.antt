@@ -13,19 +13,20 @@ use Rattle.ground.specs.Options.{given, orElse}
 use Rattle.store.specs.Store.{cleared}
 use Rattle.reader.specs.Reading.{readBack, reading}
 use Rattle.desk.specs.declared.Key.{Key}
-use Rattle.desk.specs.declared.Book.{Book}
-use Rattle.desk.specs.declared.Parts.{Parts}
-use Rattle.desk.specs.declared.PageLine.{PageLine}
-use Rattle.desk.specs.declared.Reply.{Reply}
+use Rattle.parts.specs.declared.Book.{Book}
+use Rattle.parts.specs.declared.Parts.{Parts}
+use Rattle.parts.specs.declared.PageLine.{PageLine}
+use Rattle.parts.specs.declared.Reply.{Reply}
 use Rattle.desk.specs.declared.Found.{Found}
 use Rattle.desk.specs.declared.Found.the-variants.{At, Nothing}
-use Rattle.desk.specs.declared.Sought.the-variants.{Used}
+use Rattle.parts.specs.declared.Sought.the-variants.{Used}
 use Rattle.desk.specs.Desk.{Page, Desk, Outcome}
-use Rattle.desk.specs.Parts.{deskOf, partsOf, Whole}
+use Rattle.parts.specs.Parts.{deskOf, partsOf, Whole}
 use Rattle.desk.specs.Places.{noPage, findBy, isFound, pageFound}
-use Rattle.desk.specs.Finding.{pageSought, found-page}
-use Rattle.desk.specs.Lines.{noPageLine, page-in, find-pages}
-use Rattle.desk.specs.Puts.{whole-as}
+use Rattle.desk.proofs.Standing.{found-page}
+use Rattle.parts.specs.Finding.{pageSought}
+use Rattle.parts.specs.Lines.{noPageLine, page-in, find-pages}
+use Rattle.parts.specs.Puts.{whole-as}
 use Rattle.desk.specs.Lawful.{lawfulKey, lawful}
 use Rattle.desk.specs.Refusals.{Row, row, refusal, lentAfter}
 use Rattle.desk.specs.Calls.{Call, keyOf, lentTo}
@@ -33,7 +34,7 @@ use Rattle.desk.specs.Standing.{stand, openPage, pageBy}
 use Rattle.desk.specs.Tests.{unlawful, unknown}
 use Rattle.desk.specs.Changes.{changed}
 use Rattle.desk.specs.Allowed.{refused, done, unless, unlessLent, number, effectOn, outcome, lent, Allowed}
-use Rattle.desk.specs.Replies.{refusedBy, doneBy, outcomeOf, Serves}
+use Rattle.parts.specs.Replies.{refusedBy, doneBy, outcomeOf, Serves}
 use Rattle.refusals.specs.declared.Stands.{Stands}
 use Rattle.refusals.specs.declared.Stands.the-variants.{On, Refused}
 use Rattle.refusals.specs.Stands.{early, onPage, standing, standingTo, numberOf}

@@ -10,8 +10,8 @@ use lib.ListN.{getD}
 use borrow.Author.Tests.{eq-eqb, ne-eqb}
 use Rattle.desk.specs.declared.Found.{Found}
 use Rattle.desk.specs.declared.Found.the-variants.{At, Nothing}
-use Rattle.desk.specs.declared.PageLine.{PageLine}
-use Rattle.desk.specs.Lines.{noPageLine}
+use Rattle.parts.specs.declared.PageLine.{PageLine}
+use Rattle.parts.specs.Lines.{noPageLine}
 use Rattle.refusals.specs.declared.Stands.{Stands}
 use Rattle.refusals.specs.declared.Stands.the-variants.{On, Refused}
 

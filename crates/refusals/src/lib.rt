@@ -1,20 +1,20 @@
 // The refusals that calls share, in the order of their numbers' table: 12, 1, 6, then the key's page or 2, then 7.
 ghost use mathlib.Core.Path.{_≡_};
 ghost use Rattle.limits.specs.Limits.{maxPages};
-ghost use Rattle.desk.specs.declared.Sought.the-variants.{Used};
+ghost use Rattle.parts.specs.declared.Sought.the-variants.{Used};
 ghost use Rattle.desk.specs.Places.{findBy, stateFor};
-ghost use Rattle.desk.specs.Finding.{pageSought};
+ghost use Rattle.parts.specs.Finding.{pageSought};
 ghost use Rattle.desk.specs.Lawful.{lawfulKey};
-ghost use Rattle.desk.specs.Replies.{refusedBy};
+ghost use Rattle.parts.specs.Replies.{refusedBy};
 ghost use Rattle.refusals.specs.Stands.{early, standing, standingTo, numberOf, standsBelow};
-use desk::Book;
 use desk::Direction;
 use desk::Found;
 use desk::Key;
-use desk::PageLine;
-use desk::Reply;
-use desk::Sought;
 use limits::PAGES;
+use parts::Book;
+use parts::PageLine;
+use parts::Reply;
+use parts::Sought;
 
 // Where a call stands that needs an open page: on it, or refused.
 pub enum Stands {
@@ -43,7 +43,7 @@ pub fn page_for(good: bool, key: Key, sized: bool, pages: [PageLine; PAGES]) -> 
     ensures { λ r. ⌜ (r ≡ standing good (lawfulKey key) sized (findBy (pageSought (Used key)) pages 0)) × standsBelow maxPages r ⌝ }
 {
     let early = early_refusal(good, key, sized);
-    let found = desk::find_page(pages, 0, Sought::Used(key));
+    let found = parts::find_page(pages, 0, Sought::Used(key));
     if early != 0 {
         return Stands::Refused(early);
     }
@@ -90,7 +90,7 @@ pub fn turned_away(stands: Stands, book: Book) -> Reply
     ensures { λ r. ⌜ r ≡ refusedBy (numberOf stands) book ⌝ }
 {
     match stands {
-        Stands::On(_) => desk::refused(0, book),
-        Stands::Refused(n) => desk::refused(n, book),
+        Stands::On(_) => parts::refused(0, book),
+        Stands::Refused(n) => parts::refused(n, book),
     }
 }

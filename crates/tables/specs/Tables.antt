@@ -12,18 +12,18 @@ use Rattle.ground.specs.Options.{given, orElse}
 use Rattle.store.specs.Store.{inFront}
 use Rattle.reader.specs.Reading.{readBack}
 use Rattle.desk.specs.declared.Key.{Key}
-use Rattle.desk.specs.declared.Book.{Book}
-use Rattle.desk.specs.declared.Parts.{Parts}
-use Rattle.desk.specs.declared.PageLine.{PageLine}
-use Rattle.desk.specs.declared.Reply.{Reply}
+use Rattle.parts.specs.declared.Book.{Book}
+use Rattle.parts.specs.declared.Parts.{Parts}
+use Rattle.parts.specs.declared.PageLine.{PageLine}
+use Rattle.parts.specs.declared.Reply.{Reply}
 use Rattle.desk.specs.declared.Found.{Found}
 use Rattle.desk.specs.declared.Found.the-variants.{At, Nothing}
 use Rattle.desk.specs.Desk.{Page, Place, Desk}
-use Rattle.desk.specs.Parts.{pagesOf, deskOf, partsOf, Whole}
+use Rattle.parts.specs.Parts.{pagesOf, deskOf, partsOf, Whole}
 use Rattle.desk.specs.Places.{noTable, freePlace, pageFound, tableFound, isFound}
-use Rattle.desk.specs.Finding.{found-page, found-table}
-use Rattle.desk.specs.Lines.{place-in}
-use Rattle.desk.specs.Puts.{PlacePut, place-whole}
+use Rattle.desk.proofs.Standing.{found-page, found-table}
+use Rattle.parts.specs.Lines.{place-in}
+use Rattle.parts.specs.Puts.{PlacePut, place-whole}
 use Rattle.desk.specs.Lawful.{lawfulKey, lawful}
 use Rattle.desk.specs.Calls.{drops, looks}
 use Rattle.desk.specs.Standing.{stand, tableBy, openPage, learnedTable}
@@ -32,7 +32,7 @@ use Rattle.desk.specs.Refusals.{Row, row, refusal}
 use Rattle.desk.specs.Effects.{effect}
 use Rattle.desk.specs.Changes.{setAt, pagesAfter, placesAfter, changed}
 use Rattle.desk.specs.Allowed.{number}
-use Rattle.desk.specs.Replies.{doneBy, Serves}
+use Rattle.parts.specs.Replies.{doneBy, Serves}
 use Rattle.refusals.specs.Stands.{early}
 use Rattle.refusals.specs.Refusing.{front, here, past, at-end, early-here, early-past, accepts}
 

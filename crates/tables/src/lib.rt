@@ -5,18 +5,18 @@ ghost use Prim.Native.Nat.{_≤_};
 ghost use lib.ListN.{length};
 ghost use Rattle.limits.specs.Limits.{contexts};
 ghost use Rattle.store.specs.Store.{inFront};
-ghost use Rattle.desk.specs.Parts.{partsOf, Sized};
+ghost use Rattle.parts.specs.Parts.{partsOf, Sized};
 ghost use Rattle.desk.specs.Calls.{drops, looks};
-ghost use Rattle.desk.specs.Replies.{Serves};
-use desk::Book;
+ghost use Rattle.parts.specs.Replies.{Serves};
 use desk::Found;
 use desk::Key;
-use desk::Reply;
-use desk::Sought;
 use limits::CONTEXTS;
 use limits::PAGES;
 use limits::PLACES;
 use limits::ROW;
+use parts::Book;
+use parts::Reply;
+use parts::Sought;
 
 // Drop: the class's learned table is forgotten.
 pub fn forget<'a>(
@@ -33,19 +33,19 @@ pub fn forget<'a>(
     let good = lawful::lawful_desk(book, working, rows, learned);
     let early = refusals::early_refusal(good, key, true);
     if early != 0 {
-        return desk::refused(early, book);
+        return parts::refused(early, book);
     }
     let pages = book.pages;
-    if desk::is_found(desk::find_page(pages, 0, Sought::Used(key))) {
-        return desk::refused(3, book);
+    if parts::is_found(parts::find_page(pages, 0, Sought::Used(key))) {
+        return parts::refused(3, book);
     }
     let places = book.places;
-    let place = desk::find_place(places, 0, Sought::Learned(key));
-    if !desk::is_found(place) {
-        return desk::refused(11, book);
+    let place = parts::find_place(places, 0, Sought::Learned(key));
+    if !parts::is_found(place) {
+        return parts::refused(11, book);
     }
-    let next = desk::clear_place(book, learned, place);
-    desk::done(0, 0, next)
+    let next = parts::clear_place(book, learned, place);
+    parts::done(0, 0, next)
 }
 
 // A table's bytes in the front of a buffer, the rest kept.
@@ -76,17 +76,17 @@ pub fn look<'a, 'b>(
     let good = lawful::lawful_desk(book, working, rows, learned);
     let early = refusals::early_refusal(good, key, true);
     if early != 0 {
-        return desk::refused(early, book);
+        return parts::refused(early, book);
     }
     let places = book.places;
-    let Found::At(i) = desk::find_place(places, 0, Sought::Learned(key)) else {
-        return desk::refused(11, book);
+    let Found::At(i) = parts::find_place(places, 0, Sought::Learned(key)) else {
+        return parts::refused(11, book);
     };
     if out.len() < CONTEXTS {
         store::clear(out);
-        return desk::refused(9, book);
+        return parts::refused(9, book);
     }
     let table = learned[i];
     show_table(table, out);
-    desk::done(CONTEXTS as u64, 0, book)
+    parts::done(CONTEXTS as u64, 0, book)
 }

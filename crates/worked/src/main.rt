@@ -1,7 +1,6 @@
 // P1 to P9 of document 01: each band written on a desk, its code in hexadecimal and its S.
-ghost use Rattle.desk.specs.Parts.{Sized};
+ghost use Rattle.parts.specs.Parts.{Sized};
 use desk::Ask;
-use desk::Book;
 use desk::Direction;
 use desk::Key;
 use desk::Opening;
@@ -9,6 +8,7 @@ use limits::CONTEXTS;
 use limits::PAGES;
 use limits::PLACES;
 use limits::ROW;
+use parts::Book;
 
 fn the_key() -> Key {
     Key {
@@ -47,7 +47,7 @@ fn line<'a, 'b, 'c>(
     requires { ⌜ Sized (now working) (now rows) (now learned) ⌝ }
 {
     let mut out = [0u8; 16];
-    let wrote = bands::write(book, working, rows, learned, band_of(count), pels, &mut out);
+    let wrote = writing::write(book, working, rows, learned, band_of(count), pels, &mut out);
     lines::put_text(name);
     lines::put_text(b":");
     lines::put_bytes(store::front_of(&out, wrote.answer.length as usize));
@@ -61,8 +61,8 @@ fn first(name: &[u8], width: u64, count: u64, pels: &[u8]) {
     let mut working = [[0u8; CONTEXTS]; PAGES];
     let mut rows = [[0u8; ROW]; PAGES];
     let mut learned = [[0u8; CONTEXTS]; PLACES];
-    let book = desk::emptied(&mut working, &mut rows, &mut learned);
-    let a = pages::open(book, &mut working, &mut rows, &mut learned, page_of(width));
+    let book = parts::emptied(&mut working, &mut rows, &mut learned);
+    let a = opening::open(book, &mut working, &mut rows, &mut learned, page_of(width));
     line(
         name,
         a.book,
@@ -79,10 +79,10 @@ fn second(name: &[u8], before: &[u8], pels: &[u8]) {
     let mut working = [[0u8; CONTEXTS]; PAGES];
     let mut rows = [[0u8; ROW]; PAGES];
     let mut learned = [[0u8; CONTEXTS]; PLACES];
-    let book = desk::emptied(&mut working, &mut rows, &mut learned);
-    let a = pages::open(book, &mut working, &mut rows, &mut learned, page_of(1));
+    let book = parts::emptied(&mut working, &mut rows, &mut learned);
+    let a = opening::open(book, &mut working, &mut rows, &mut learned, page_of(1));
     let mut out = [0u8; 16];
-    let b = bands::write(
+    let b = writing::write(
         a.book,
         &mut working,
         &mut rows,

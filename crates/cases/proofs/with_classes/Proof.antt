@@ -1,7 +1,7 @@
 -- A desk on which n classes have been opened: the loop ends after n turns, and the arrays keep their sizes. Assumes nothing.
 use Prim.Native.Nat.{_≤_, _-_}
 use native.Mathlib.Omega.{arith}
-use Rattle.desk.specs.Parts.{Sized}
+use Rattle.parts.specs.Parts.{Sized}
 use borrow.Author.Needs.{needs}
 use Rattle.cases.proofs.with_classes.Statement.{statement}
 use Rattle.cases.proofs.with_classes.Tie as tie

@@ -40,19 +40,19 @@ use denote.Triple.Table.{entered, cited}
 use denote.Triple.Walked.{says, Stays, stay-ref, walkOf, AllGo, goes-ref, Walks, ends-at, walked, walk-meets}
 use denote.Exit.{yes}
 use Rattle.limits.specs.Limits.{maxPages, maxPlaces, contexts, lastBytes}
-use Rattle.desk.specs.Parts.{partsOf, deskOf, Sized}
-use Rattle.desk.specs.Parts.{Whole}
+use Rattle.parts.specs.Parts.{partsOf, deskOf, Sized}
+use Rattle.parts.specs.Parts.{Whole}
 use Rattle.desk.specs.Places.{emptyDesk}
-use Rattle.desk.specs.declared.Book.{Book}
-use Rattle.desk.specs.declared.Parts.{Parts}
-use Rattle.desk.proofs.Parts as T
-use Rattle.desk.proofs.Book as B
-use Rattle.desk.proofs.Book.Laws as B′
+use Rattle.parts.specs.declared.Book.{Book}
+use Rattle.parts.specs.declared.Parts.{Parts}
+use Rattle.parts.proofs.Parts as T
+use Rattle.parts.proofs.Book as B
+use Rattle.parts.proofs.Book.Laws as B′
 use Rattle.counter.specs.Layout.{workingAt, rowsAt, learnedAt}
 use Rattle.counter.proofs.Apart.{Working, Rows, Learned, Bytes, Names, bv, Fits, BookAt, DeskAt, Arrays, ref, Refs, Lents, Back}
 use Rattle.counter.proofs.Apart.{apart, together, lent-out, back-in}
-use Rattle.asked.proofs.emptied.Symbol as g
-use Rattle.asked.proofs.emptied.Met as g-thm
+use Rattle.asked_tables.proofs.emptied.Symbol as g
+use Rattle.asked_tables.proofs.emptied.Met as g-thm
 use Rattle.counter.proofs.siftpebble_empty as f
 use Rattle.counter.proofs.siftpebble_empty.Key as key
 use Rattle.counter.proofs.siftpebble_empty.Statement as stated
@@ -215,4 +215,4 @@ siftpebble-empty-spec 𝓤 H 𝓜 𝓖 𝓡 =
     entered 𝓤 H (tripleOf 𝓤 H (𝓖 .A) f.signature (f.spec 𝓤 H (𝓖 .A) (𝓜 .mem) (𝓡 .run)))
     (tables 𝓤 H 𝓜 𝓡 code.env .C) (tables 𝓤 H 𝓜 𝓡 code.env .Λ) key.name code.function (code.unfolded 𝓤 H 𝓜 𝓡)
     (meets 𝓤 H (𝓖 .A) (givenOf 𝓤 H 𝓜 𝓖) (𝓜 .mem) (𝓡 .run) (tablesOf 𝓤 H 𝓜 (tables 𝓤 H 𝓜 𝓡 code.env))
-    (cited 𝓤 H (Callee 𝓤 H (𝓖 .A)) 𝓜 𝓡 code.env g.name g.routine code.calls-asked·emptied (g-thm.met 𝓤 H 𝓜 𝓖 𝓡)))
+    (cited 𝓤 H (Callee 𝓤 H (𝓖 .A)) 𝓜 𝓡 code.env g.name g.routine code.calls-asked-tables·emptied (g-thm.met 𝓤 H 𝓜 𝓖 𝓡)))

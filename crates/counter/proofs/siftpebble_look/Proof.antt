@@ -5,13 +5,13 @@ use contract.Running.{givenOf, tables, tablesOf}
 use denote.Triple.Spec.{tripleOf}
 use denote.Triple.Table.{entered, cited}
 use Rattle.desk.specs.declared.Answer.{Answer}
-use Rattle.desk.specs.declared.Parts.{Parts}
+use Rattle.parts.specs.declared.Parts.{Parts}
 use Rattle.desk.specs.Calls.{looks}
-use Rattle.desk.specs.Replies.{Serves}
-use Rattle.asked.specs.Asked.{asKey}
+use Rattle.parts.specs.Replies.{Serves}
+use Rattle.desk.specs.Asked.{asKey}
 use Rattle.counter.proofs.TwoOut.{outer-meets, Callee}
-use Rattle.asked.proofs.looked.Symbol as g
-use Rattle.asked.proofs.looked.Met as g-thm
+use Rattle.asked_tables.proofs.looked.Symbol as g
+use Rattle.asked_tables.proofs.looked.Met as g-thm
 use Rattle.counter.proofs.siftpebble_look as f
 use Rattle.counter.proofs.siftpebble_look.Key as key
 use Rattle.counter.proofs.siftpebble_look.Statement as stated
@@ -26,4 +26,4 @@ siftpebble-look-spec 𝓤 H 𝓜 𝓖 𝓡 =
     entered 𝓤 H (tripleOf 𝓤 H (𝓖 .A) f.signature (f.spec 𝓤 H (𝓖 .A) (𝓜 .mem) (𝓡 .run)))
     (tables 𝓤 H 𝓜 𝓡 code.env .C) (tables 𝓤 H 𝓜 𝓡 code.env .Λ) key.name code.function (code.unfolded 𝓤 H 𝓜 𝓡)
     (outer-meets g.name Does 𝓤 H (𝓖 .A) (givenOf 𝓤 H 𝓜 𝓖) (tablesOf 𝓤 H 𝓜 (tables 𝓤 H 𝓜 𝓡 code.env))
-    (cited 𝓤 H (Callee Does 𝓤 H (𝓖 .A)) 𝓜 𝓡 code.env g.name g.routine code.calls-asked·looked (g-thm.met 𝓤 H 𝓜 𝓖 𝓡)))
+    (cited 𝓤 H (Callee Does 𝓤 H (𝓖 .A)) 𝓜 𝓡 code.env g.name g.routine code.calls-asked-tables·looked (g-thm.met 𝓤 H 𝓜 𝓖 𝓡)))

@@ -2,11 +2,11 @@
 use mathlib.Core.Path.{sym, ap, ap₂, _∙_}
 use mathlib.Core.Bool.{Bool, _&&_}
 use mathlib.Core.List.{List}
-use Rattle.desk.specs.declared.Parts.{Parts}
-use Rattle.desk.specs.declared.PageLine.{PageLine}
-use Rattle.desk.specs.declared.PlaceLine.{PlaceLine}
-use Rattle.desk.specs.Parts.{partsOf, deskOf, Whole}
-use Rattle.desk.specs.Lines.{lines-off, place-lines-off, tables-long, rows-long, learned-long}
+use Rattle.parts.specs.declared.Parts.{Parts}
+use Rattle.parts.specs.declared.PageLine.{PageLine}
+use Rattle.parts.specs.declared.PlaceLine.{PlaceLine}
+use Rattle.parts.specs.Parts.{partsOf, deskOf, Whole}
+use Rattle.parts.specs.Lines.{lines-off, place-lines-off, tables-long, rows-long, learned-long}
 use Rattle.lawful.specs.Loops.{each}
 use Rattle.lawful.specs.Each.{pageRight, placeRight, lawful-each}
 use borrow.Author.Needs.{needs}

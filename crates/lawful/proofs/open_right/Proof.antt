@@ -3,7 +3,7 @@ use mathlib.Core.Path.{sym, _∙_}
 use native.Mathlib.Omega.{arith}
 use borrow.Author.Tests.{not-true, not-false}
 use Rattle.limits.specs.Limits.{maxWidth}
-use Rattle.desk.specs.Parts.{asPage}
+use Rattle.parts.specs.Parts.{asPage}
 use Rattle.desk.specs.OpenPages.{within-both}
 use Rattle.lawful.specs.Each.{open-stops, open-made}
 use borrow.Author.Needs.{needs}

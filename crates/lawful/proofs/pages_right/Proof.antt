@@ -5,9 +5,9 @@ use native.Mathlib.Omega.{arith}
 use lib.ListN.{length}
 use borrow.Author.Tests.{not-true, not-false}
 use Rattle.limits.specs.Limits.{maxPages}
-use Rattle.desk.specs.Parts.{pagesOf}
+use Rattle.parts.specs.Parts.{pagesOf}
 use Rattle.desk.specs.Places.{noPage}
-use Rattle.desk.specs.Lines.{length-pages}
+use Rattle.parts.specs.Lines.{length-pages}
 use Rattle.lawful.specs.Loops.{each, Left, left-starts, each-failed, each-passed, each-end}
 use Rattle.lawful.specs.Each.{pageRight, page-right, both-made}
 use borrow.Author.Needs.{needs}

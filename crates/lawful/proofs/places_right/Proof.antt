@@ -5,9 +5,9 @@ use native.Mathlib.Omega.{arith}
 use lib.ListN.{length}
 use borrow.Author.Tests.{not-true, not-false}
 use Rattle.limits.specs.Limits.{maxPlaces}
-use Rattle.desk.specs.Parts.{asPlace, placesOf}
+use Rattle.parts.specs.Parts.{asPlace, placesOf}
 use Rattle.desk.specs.Places.{noPlace}
-use Rattle.desk.specs.Beside.{length-beside}
+use Rattle.parts.specs.Beside.{length-beside}
 use Rattle.lawful.specs.Loops.{each, Left, left-starts, each-failed, each-passed, each-end}
 use Rattle.lawful.specs.Each.{placeRight, place-right, both-made}
 use borrow.Author.Needs.{needs}

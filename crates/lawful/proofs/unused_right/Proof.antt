@@ -1,6 +1,6 @@
 -- The key, the width, then each byte is zero. Assumes nothing.
 use mathlib.Core.Path.{ap, _∙_}
-use Rattle.desk.specs.Parts.{asPage}
+use Rattle.parts.specs.Parts.{asPage}
 use Rattle.desk.specs.Places.{sameKey}
 use Rattle.lawful.specs.Each.{unused-made}
 use borrow.Author.Needs.{needs}

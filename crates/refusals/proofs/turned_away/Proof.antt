@@ -1,6 +1,6 @@
 -- By the number of the refusal. Assumes nothing.
 use mathlib.Core.Path.{sym, ap, _∙_}
-use Rattle.desk.specs.Replies.{refusedBy}
+use Rattle.parts.specs.Replies.{refusedBy}
 use Rattle.refusals.specs.declared.Stands.{Stands}
 use Rattle.refusals.specs.Stands.{numberOf}
 use borrow.Author.Needs.{needs}

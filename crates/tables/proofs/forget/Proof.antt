@@ -4,11 +4,11 @@ use mathlib.Core.Bool.{Bool, true}
 use mathlib.Core.List.{[]}
 use native.Mathlib.Omega.{arith}
 use borrow.Author.Tests.{not-true, not-false}
-use Rattle.desk.specs.declared.Parts.{Parts}
-use Rattle.desk.specs.declared.Sought.the-variants.{Used, Learned}
-use Rattle.desk.specs.Parts.{deskOf, partsOf}
+use Rattle.parts.specs.declared.Parts.{Parts}
+use Rattle.parts.specs.declared.Sought.the-variants.{Used, Learned}
+use Rattle.parts.specs.Parts.{deskOf, partsOf}
 use Rattle.desk.specs.Places.{isFound, pageFound, tableFound}
-use Rattle.desk.specs.Lines.{find-pages, find-places}
+use Rattle.parts.specs.Lines.{find-pages, find-places}
 use Rattle.desk.specs.Lawful.{lawfulKey, lawful}
 use Rattle.desk.specs.Calls.{drops}
 use Rattle.refusals.specs.Stands.{early}

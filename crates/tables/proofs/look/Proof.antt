@@ -4,12 +4,12 @@ use Prim.Native.Nat.{_<_}
 use mathlib.Core.Bool.{Bool, true}
 use native.Mathlib.Omega.{arith}
 use Rattle.limits.specs.Limits.{maxPlaces}
-use Rattle.desk.specs.declared.Parts.{Parts}
+use Rattle.parts.specs.declared.Parts.{Parts}
 use Rattle.desk.specs.declared.Found.the-variants.{At}
-use Rattle.desk.specs.declared.Sought.the-variants.{Learned}
-use Rattle.desk.specs.Parts.{deskOf, partsOf}
+use Rattle.parts.specs.declared.Sought.the-variants.{Learned}
+use Rattle.parts.specs.Parts.{deskOf, partsOf}
 use Rattle.desk.specs.Places.{tableFound}
-use Rattle.desk.specs.Lines.{find-places}
+use Rattle.parts.specs.Lines.{find-places}
 use Rattle.desk.specs.Lawful.{lawfulKey, lawful}
 use Rattle.desk.specs.Calls.{looks}
 use Rattle.refusals.specs.Stands.{early}

@@ -1,3 +1,0 @@
-pub mod Served
-pub mod Writes
-pub mod Reads

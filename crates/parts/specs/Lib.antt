@@ -1,0 +1,7 @@
+pub mod Beside
+pub mod Emptied
+pub mod Finding
+pub mod Lines
+pub mod Parts
+pub mod Puts
+pub mod Replies
