@@ -2,7 +2,7 @@
 use Prim.Native.Nat.{ℕ, _-_, _*_, _≤_}
 use mathlib.Core.Path.{_≡_}
 use mathlib.Core.Option.{Option, some, none}
-use mathlib.Core.Bool.{Bool, true, false, cond, _&&_}
+use mathlib.Core.Bool.{Bool, true, _&&_}
 use mathlib.Core.List.{List, [], _++_}
 use lib.ListN.{getD, length, replicate}
 use lib.Dec.{ltb, leb}
@@ -12,9 +12,6 @@ use Rattle.coder.specs.Page.{Scheme, Page, page}
 use Rattle.estimate.specs.Estimate.{rowOf, next}
 use Rattle.interval.specs.Interval.{decision}
 use Rattle.octets.specs.Octets.{Registers, start, part, pel, code}
-use Rattle.store.specs.Store.{inFront, cleared}
-use Rattle.estimate.specs.declared.Table.{Table}
-use Rattle.band.specs.declared.Wrote.{Wrote}
 use Rattle.template.specs.Pels.{rowBytes, pelsTo, rowAt, bandTo, bandPadded, context}
 
 -- ---- the Q-coder with our seven-pel template
@@ -68,16 +65,6 @@ written width rows table last band =
 -- ---- a band written into a lent buffer. No room: the code is longer than the buffer or than the limit
 unfoldable pub hasRoom : List ℕ → List ℕ → Bool
 hasRoom code out = leb (length code) (length out) && leb (length code) maxCode
-
--- with room: n, S, the table and the last row after, the code in front and the rest kept; else nothing but a buffer all zero
-unfoldable pub wroteAnswer : Written → Table → List ℕ → List ℕ → Wrote
-wroteAnswer w table last out =
-    cond (hasRoom (w .code) out)
-    (record { room = true; length = length (w .code); shifts = w .shifts; table = record { entries = w .table }; last = w .last })
-    (record { room = false; length = 0; shifts = 0; table = table; last = last })
-
-unfoldable pub wroteOut : Written → List ℕ → List ℕ
-wroteOut w out = cond (hasRoom (w .code) out) (inFront (w .code) out) (cleared out)
 
 -- ---- a band read. A band of that width and height: bytes, exactly rows × row bytes, the padding bits zero
 pub record IsBand (width rows : ℕ) (band : List ℕ) : Type 0 where

@@ -1,7 +1,7 @@
 -- Demand 3 of the desk with demand 2's coder: any run of calls from an empty desk answers as if the closed pages had been served whole,
 -- one after another, in the order of their closing. Assumes nothing.
 use mathlib.Core.List.{List}
-use Rattle.reader.specs.Reading.{reading}
+use Rattle.unique.specs.Reading.{reading}
 use Rattle.desk.specs.Calls.{Call}
 use Rattle.serial.specs.Demand3.{Demand3, demand3}
 

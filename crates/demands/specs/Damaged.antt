@@ -12,7 +12,7 @@ use borrow.Author.Tests.{eq-eqb}
 use Rattle.ground.specs.Bools.{no-way, both, not-false}
 use Rattle.ground.specs.Options.{given, none-given}
 use Rattle.band.specs.Band.{Right}
-use Rattle.reader.specs.Reading.{readBack, right-found}
+use Rattle.unique.specs.Reading.{readBack, right-found}
 use Rattle.desk.specs.declared.Ask.{Ask}
 use Rattle.desk.specs.Desk.{Page, Desk, Outcome}
 use Rattle.desk.specs.Refusals.{Row, row, refusal}

@@ -4,7 +4,7 @@ use mathlib.Core.List.{List, [], _∷_}
 use Prim.Native.Nat.{ℕ}
 use Rattle.turns.specs.Service.{Entry, calls}
 use Rattle.turns.specs.Serial.{serial}
-use Rattle.reader.specs.Reading.{reading}
+use Rattle.unique.specs.Reading.{reading}
 use Rattle.desk.specs.declared.Key.{Key}
 use Rattle.desk.specs.Desk.{Desk, Outcome}
 use Rattle.desk.specs.Places.{emptyDesk}

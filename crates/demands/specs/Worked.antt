@@ -16,8 +16,8 @@ use Rattle.octets.specs.Octets as octets
 use Rattle.store.specs.Store.{inFront, cleared}
 use Rattle.template.specs.Pels.{pelAt, pelsTo, bandTo, rowPadded, bandPadded, leftOf, rightOf, context}
 use Rattle.band.specs.Band.{written, lastRow, white, hasRoom}
-use Rattle.reader.specs.Search.{firstOf, before, values, search}
-use Rattle.reader.specs.Reading.{sameBytes, writtenSo, readBack, reading}
+use Rattle.unique.specs.Search.{firstOf, before, values, search}
+use Rattle.unique.specs.Reading.{sameBytes, writtenSo, readBack, reading}
 use Rattle.desk.specs.declared.Key.{Key}
 use Rattle.desk.specs.Desk.{Desk}
 use Rattle.desk.specs.declared.Direction.{Direction}

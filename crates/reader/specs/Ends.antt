@@ -18,13 +18,14 @@ use Rattle.exact.specs.Sight.{opened}
 use Rattle.store.specs.Store.{inFront, cleared}
 use Rattle.template.specs.Pels.{rowBytes, bandTo}
 use Rattle.band.specs.Band.{qWriter, qPage, pageAt, written, lastRow}
-use Rattle.band.specs.Bands.{finish-behind}
+use Rattle.writer.specs.Bands.{finish-behind}
 use Rattle.reader.specs.declared.Reading.{Reading}
-use Rattle.reader.specs.QCoder.{qReader}
+use Rattle.unique.specs.QCoder.{qReader}
 use Rattle.reader.specs.ReadRow.{matches, matches-append, reads}
 use Rattle.reader.specs.Reads.{BandRead}
 use Rattle.reader.specs.Found.{rowsFit, readAnswer, readOut, BandFound}
-use Rattle.reader.specs.Verdict.{agreed, agrees, reads-written, code-of-pels}
+use Rattle.reader.specs.Verdict.{agreed, agrees}
+use Rattle.unique.specs.BandPels.{reads-written, code-of-pels}
 
 module _ (width rows : ℕ) (table : Table) (last given out₀ above : List ℕ) (r : Reading) (out : List ℕ) (b : BandRead width last given (table .entries) out₀ above r out rows)
     (lasts : List ℕ) (e : lasts ≡ bytes (finish (lift (r .coder) []))) (more : 1 ≤ length lasts) (fits : rowsFit width rows out₀ ≡ true) where

@@ -12,7 +12,7 @@ use Rattle.template.specs.Pels.{pelsTo}
 use Rattle.template.specs.declared.Window.{Window}
 use Rattle.template.specs.Window.{length-pels}
 use Rattle.template.specs.Packing.{Row}
-use Rattle.band.specs.Rows.{stageOf, pageOf, through, page-within, page-full}
+use Rattle.row.specs.Rows.{stageOf, pageOf, through, page-within, page-full}
 use Rattle.reader.specs.declared.Reading.{Reading}
 use Rattle.reader.specs.declared.Line.{Line}
 use Rattle.sight.specs.Views.{sightOf}

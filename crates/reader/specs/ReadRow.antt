@@ -24,12 +24,12 @@ use Rattle.template.specs.declared.Window.{Window}
 use Rattle.template.specs.Window.{Slid, slid-next, slid-small, length-pels, pels-bits}
 use Rattle.template.specs.Packing.{Row, row-next, pels-next, byte-room}
 use Rattle.band.specs.Band.{qScheme, qWriter, qPage}
-use Rattle.band.specs.Rows.{Pelled, bytesOf, stageOf, pageOf, through, page-within, step-within, few-bytes, pelled-ready, pelled-count, pelled-lawful}
+use Rattle.row.specs.Rows.{Pelled, bytesOf, stageOf, pageOf, through, page-within, step-within, few-bytes, pelled-ready, pelled-count, pelled-lawful}
 use Rattle.interval.specs.Interval.{decision, partOf}
-use Rattle.band.specs.declared.Pel.{Pel}
+use Rattle.row.specs.declared.Pel.{Pel}
 use Rattle.sight.specs.declared.View.{View}
 use Rattle.sight.specs.declared.Told.{Told}
-use Rattle.reader.specs.QCoder.{qReader}
+use Rattle.unique.specs.QCoder.{qReader}
 use Rattle.sight.specs.Views.{sightOf, ReadPel, taken-width}
 
 -- ---- the bytes settled, compared with the code; the very first, which is no part of it, is left out

@@ -19,8 +19,8 @@ use Rattle.octets.specs.Lift.{lift}
 use Rattle.exact.specs.Sight.{Sight, opened}
 use Rattle.template.specs.Pels.{rowBytes, pelsTo, rowAt, bandTo, bandPadded}
 use Rattle.band.specs.Band.{IsBand, qWriter, qPage, pageAt}
-use Rattle.band.specs.Rows.{stageOf, through, lift-behind}
-use Rattle.band.specs.Bands.{behind-through}
+use Rattle.row.specs.Rows.{stageOf, through, lift-behind}
+use Rattle.writer.specs.Bands.{behind-through}
 use Rattle.reader.specs.declared.Reading.{Reading}
 use Rattle.reader.specs.declared.Line.{Line}
 use Rattle.sight.specs.Views.{sightOf}

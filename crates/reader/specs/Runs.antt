@@ -16,8 +16,8 @@ use Rattle.template.specs.Pels.{pelsTo, context}
 use Rattle.template.specs.declared.Window.{Window}
 use Rattle.template.specs.Window.{slid-context}
 use Rattle.template.specs.White.{Under, whiteWindow, slid-white}
-use Rattle.band.specs.declared.Pel.{Pel}
-use Rattle.band.specs.Rows.{Pelled, bytesOf, pelled-quiet}
+use Rattle.row.specs.declared.Pel.{Pel}
+use Rattle.row.specs.Rows.{Pelled, bytesOf, pelled-quiet}
 use Rattle.sight.specs.declared.View.{View}
 use Rattle.reader.specs.ReadRow.{RowRead, matches, and-true, read-turn}
 use Rattle.sight.specs.Still.{viewBy, view-none, view-more, stillTold, told-still}

@@ -110,7 +110,7 @@ pub fn read_row(code: &[u8], above: &[u8], width: usize, start: Reading) -> Line
     while x < width {
         let cx = 4 * window.above + window.this;
         let white = table.entries[0];
-        if band::starts_run(white, cx, 0, width) {
+        if row::starts_run(white, cx, 0, width) {
             end = run_end(above, width, x, end);
             let q = estimate::row_of(white);
             let n = interval::fits(end - x, q, view.room(coder.interval.width));

@@ -7,7 +7,7 @@ use lib.ListN.{length, getD, set}
 use Rattle.ground.specs.Options.{orElse}
 use Rattle.store.specs.Store.{inFront}
 use Rattle.band.specs.Band.{Written}
-use Rattle.reader.specs.Reading.{readBack}
+use Rattle.unique.specs.Reading.{readBack}
 use Rattle.desk.specs.declared.Key.{Key}
 use Rattle.parts.specs.declared.Book.{Book}
 use Rattle.parts.specs.declared.Parts.{Parts}

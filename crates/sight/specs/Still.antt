@@ -11,7 +11,7 @@ use Rattle.ground.specs.Tests.{if-ge}
 use Rattle.estimate.specs.Estimate.{rowOf}
 use Rattle.octets.specs.declared.Coder.{Coder}
 use Rattle.exact.specs.Sight.{Sight, nearer, supplied, seek, decide, above}
-use Rattle.band.specs.Rows.{stillPel, pelled-still}
+use Rattle.row.specs.Rows.{stillPel, pelled-still}
 use Rattle.sight.specs.declared.View.{View}
 use Rattle.sight.specs.declared.Told.{Told}
 use Rattle.sight.specs.Views.{sightOf, ReadPel}

@@ -20,9 +20,9 @@ use Rattle.coder.specs.Reading.{pelOf, pelOf-bit}
 use Rattle.estimate.specs.Estimate.{rowOf}
 use Rattle.estimate.specs.Laws.{row-sized}
 use Rattle.octets.specs.declared.Coder.{Coder}
-use Rattle.band.specs.Rows.{Pelled}
+use Rattle.row.specs.Rows.{Pelled}
 use Rattle.octets.specs.Lift.{lift}
-use Rattle.band.specs.declared.Pel.{Pel}
+use Rattle.row.specs.declared.Pel.{Pel}
 use Rattle.sight.specs.declared.View.{View}
 use Rattle.sight.specs.declared.Told.{Told}
 

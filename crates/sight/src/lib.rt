@@ -14,8 +14,8 @@ ghost use Rattle.exact.specs.Sight.{opened};
 ghost use Rattle.exact.specs.Sight as law;
 ghost use Rattle.sight.specs.Views.{sightOf, seeks, ReadPel};
 ghost use Rattle.sight.specs.Still.{viewBy};
-use band::Pel;
 use octets::Coder;
+use row::Pel;
 
 // What is in sight of a code: its bits read so far less the low end, how many of them lie ahead, the byte last read, and where the next stands.
 pub struct View {
@@ -164,7 +164,7 @@ pub fn read_pel(coder: Coder, view: View, code: &[u8], e: u8) -> Told
     if part <= view.x {
         let rest = view.still(q);
         if 0x1000 + q <= coder.interval.width {
-            let pel = band::still_pel(coder, e, q);
+            let pel = row::still_pel(coder, e, q);
             return Told {
                 expected: true,
                 p: pel_told(e, true),
@@ -174,7 +174,7 @@ pub fn read_pel(coder: Coder, view: View, code: &[u8], e: u8) -> Told
         }
         let v = coder.pel(q, true);
         let next = rest.advance(code, v.shifts);
-        let pel = band::moved_pel(v, estimate::next_entry(e, true));
+        let pel = row::moved_pel(v, estimate::next_entry(e, true));
         return Told {
             expected: true,
             p: pel_told(e, true),
@@ -184,7 +184,7 @@ pub fn read_pel(coder: Coder, view: View, code: &[u8], e: u8) -> Told
     }
     let v = coder.pel(q, false);
     let next = view.advance(code, v.shifts);
-    let pel = band::moved_pel(v, estimate::next_entry(e, false));
+    let pel = row::moved_pel(v, estimate::next_entry(e, false));
     Told {
         expected: false,
         p: pel_told(e, false),

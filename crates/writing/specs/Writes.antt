@@ -11,9 +11,10 @@ use Rattle.limits.specs.Limits.{maxRows}
 use Rattle.store.specs.Store.{inFront, cleared}
 use Rattle.estimate.specs.declared.Table.{Table}
 use Rattle.template.specs.Pels.{rowBytes, bandPadded}
-use Rattle.band.specs.declared.Wrote.{Wrote}
-use Rattle.band.specs.Band.{Written, hasRoom, wroteAnswer, wroteOut}
-use Rattle.reader.specs.Reading.{readBack}
+use Rattle.writer.specs.declared.Wrote.{Wrote}
+use Rattle.band.specs.Band.{Written, hasRoom}
+use Rattle.writer.specs.Wrote.{wroteAnswer, wroteOut}
+use Rattle.unique.specs.Reading.{readBack}
 use Rattle.desk.specs.declared.Ask.{Ask}
 use Rattle.desk.specs.Desk.{Page, Desk}
 use Rattle.desk.specs.Lawful.{within}

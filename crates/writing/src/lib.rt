@@ -48,7 +48,7 @@ pub fn write<'a, 'b, 'c>(
     let entries = working[i];
     let last = rows[i];
     let table = Table { entries: entries };
-    let wrote = band::write_band(table, last, width, count, pels, out);
+    let wrote = writer::write_band(table, last, width, count, pels, out);
     if !wrote.room {
         return parts::refused(9, book);
     }

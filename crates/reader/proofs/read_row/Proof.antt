@@ -16,7 +16,7 @@ use Rattle.template.specs.Pels.{pelsTo}
 use Rattle.template.specs.White.{Under, under-none, under-part}
 use Rattle.template.specs.Window.{pels-bits, slid-context}
 use Rattle.template.specs.Packing.{row-none}
-use Rattle.band.specs.Rows.{bytesOf, pelled-kept}
+use Rattle.row.specs.Rows.{bytesOf, pelled-kept}
 use Rattle.sight.specs.Views.{told-bit}
 use Rattle.reader.specs.ReadRow.{RowRead, matches, read-start, read-turn, read-window, read-room}
 use Rattle.reader.specs.Runs.{told-so, match-none, read-run}

@@ -7,7 +7,7 @@ use Rattle.estimate.specs.Estimate.{rowOf}
 use Rattle.estimate.specs.Laws.{row-sized}
 use Rattle.interval.specs.Growing.{doublings-few}
 use Rattle.exact.specs.Reader.{decide-true, decide-false}
-use Rattle.band.specs.Rows.{movedPel, pelled-moved}
+use Rattle.row.specs.Rows.{movedPel, pelled-moved}
 use Rattle.sight.specs.declared.View.{View}
 use Rattle.sight.specs.Views.{sightOf, told-moved, part-small}
 use Rattle.sight.specs.Still.{viewBy, told-still}

@@ -20,7 +20,7 @@ use Rattle.parts.specs.Replies.{doneBy}
 use Rattle.refusals.specs.Refusing.{StoodTo, turned-to, standing-to, turns-away, refuses, keeps, clears}
 use Rattle.refusals.specs.Served.{pageIn, page-is, open-in, band-done}
 use Rattle.template.specs.Pels.{rowBytes, bandPadded}
-use Rattle.band.specs.declared.Wrote.{Wrote}
+use Rattle.writer.specs.declared.Wrote.{Wrote}
 use Rattle.writing.specs.Writes.{write-number, write-pels, write-padding, write-room, cleared-out, write-end, write-gave, write-lent, write-effect}
 use borrow.Author.Needs.{needs}
 use Rattle.writing.proofs.write.Statement.{statement}

@@ -1,0 +1,1 @@
+// No two bands have one code, and there is one right reader: theorems only.

@@ -1,0 +1,137 @@
+// Bands written into a lent buffer.
+ghost use mathlib.Core.Path.{_≡_};
+ghost use mathlib.Core.List.{[]};
+ghost use Prim.Native.Nat.{_+_, _-_, _*_, _≤_, _<_};
+ghost use mathlib.Core.Bool.{true, _&&_};
+ghost use lib.Dec.{leb};
+ghost use lib.ListN.{length};
+ghost use Rattle.estimate.specs.Estimate.{LawfulTable};
+ghost use Rattle.octets.specs.Fit.{Ready};
+ghost use Rattle.octets.specs.Lift.{lift};
+ghost use Rattle.template.specs.Pels.{pelsTo, rowAt, rowBytes};
+ghost use Rattle.limits.specs.Limits.{maxWidth, maxRows, maxCode, farthest, maxShifts};
+ghost use Rattle.band.specs.Band.{written, lastRow};
+ghost use Rattle.writer.specs.Wrote.{wroteAnswer, wroteOut};
+ghost use Rattle.row.specs.Rows.{RowDone};
+ghost use Rattle.writer.specs.Bands.{BandAt};
+use estimate::Table;
+use limits::MAX_CODE;
+use limits::ROW;
+use octets::Coder;
+use row::Run;
+
+// What writing a band gives: whether there was room, n, S, and the table and last row after it.
+pub struct Wrote {
+    pub room: bool,
+    pub length: usize,
+    pub shifts: u64,
+    pub table: Table,
+    pub last: [u8; ROW],
+}
+
+// The row y of a band, under the row before it.
+pub fn write_next(pels: &[u8], y: usize, width: usize, run: Run, out: &mut [u8]) -> Run
+    requires { ⌜ (1 ≤ width) × (width ≤ maxWidth) × (1 ≤ y) × (y < maxRows) × (y * rowBytes width + rowBytes width ≤ length (now pels))
+        × LawfulTable (run .table .entries) × Ready (lift (run .coder) [])
+        × (run .coder .interval .count + 12 * maxWidth ≤ maxShifts) × (run .at + 2 * maxWidth ≤ farthest) ⌝ }
+    ensures { λ r. ⌜ RowDone width (pelsTo (rowAt width (now (pels .entry)) (y - 1)) width) (rowAt width (now (pels .entry)) y) (run .table .entries) (run .coder) (now (out .entry)) (run .at) (r .table .entries) (r .coder) (now (out .exit)) (r .at) ⌝ }
+{
+    let bytes = template::row_bytes(width);
+    let from = y * bytes;
+    let row = &pels[from..from + bytes];
+    let above = &pels[from - bytes..from];
+    row::write_row(row, above, width, run, out)
+}
+
+// The rows of a band, the first under the page's last row.
+pub fn write_rows(
+    pels: &[u8],
+    last: [u8; ROW],
+    width: usize,
+    rows: usize,
+    table: Table,
+    out: &mut [u8],
+) -> Run
+    requires { ⌜ (1 ≤ width) × (width ≤ maxWidth) × (1 ≤ rows) × (rows ≤ maxRows) × (length (now pels) ≡ rows * rowBytes width)
+        × LawfulTable (table .entries) ⌝ }
+    ensures { λ r. ⌜ BandAt width last (now (pels .entry)) (table .entries) (now (out .entry)) (rowAt width (now (pels .entry)) (rows - 1)) (r .table .entries) (r .coder) (now (out .exit)) (r .at) rows ⌝ }
+{
+    let bytes = template::row_bytes(width);
+    let coder = Coder::start();
+    let begun = Run {
+        coder: coder,
+        table: table,
+        at: 0,
+    };
+    let mut run = row::write_row(&pels[..bytes], &last, width, begun, out);
+    let mut y: usize = 1;
+    while y < rows {
+        run = write_next(pels, y, width, run, out);
+        y += 1;
+    }
+    run
+}
+
+// The last row of a band, in the room that a page has for it.
+pub fn last_row(pels: &[u8], width: usize, rows: usize) -> [u8; ROW]
+    requires { ⌜ (1 ≤ width) × (width ≤ maxWidth) × (1 ≤ rows) × (rows ≤ maxRows) × (length (now pels) ≡ rows * rowBytes width) ⌝ }
+    ensures { λ r. ⌜ r ≡ lastRow width rows (now (pels .entry)) ⌝ }
+{
+    let bytes = template::row_bytes(width);
+    let from = (rows - 1) * bytes;
+    let mut row = [0u8; ROW];
+    let mut i: usize = 0;
+    while i < bytes {
+        row[i] = pels[from + i];
+        i += 1;
+    }
+    row
+}
+
+// No room: the code is longer than the buffer or than the limit.
+pub fn has_room(n: usize, len: usize) -> bool
+    ensures { λ r. ⌜ r ≡ (leb n len && leb n maxCode) ⌝ }
+{
+    if n <= len { n <= MAX_CODE } else { false }
+}
+
+// A band into a lent buffer: its code in front and the rest kept, or all zero where there is no room.
+pub fn write_band(
+    table: Table,
+    last: [u8; ROW],
+    width: usize,
+    rows: usize,
+    pels: &[u8],
+    out: &mut [u8],
+) -> Wrote
+    requires { ⌜ (1 ≤ width) × (width ≤ maxWidth) × (1 ≤ rows) × (rows ≤ maxRows) × (length (now pels) ≡ rows * rowBytes width)
+        × LawfulTable (table .entries) ⌝ }
+    ensures { λ r. ⌜ (r ≡ wroteAnswer (written width rows (table .entries) last (now (pels .entry))) table last (now (out .entry)))
+        × (now (out .exit) ≡ wroteOut (written width rows (table .entries) last (now (pels .entry))) (now (out .entry))) ⌝ }
+{
+    let run = write_rows(pels, last, width, rows, table, out);
+    let coder = run.coder;
+    let shifts = coder.interval.count;
+    let end = coder.finish();
+    let bytes = end.bytes;
+    let n = store::put_last(out, run.at, bytes, end.count) - 1;
+    if has_room(n, out.len()) {
+        let after = run.table;
+        let row = last_row(pels, width, rows);
+        return Wrote {
+            room: true,
+            length: n,
+            shifts: shifts,
+            table: after,
+            last: row,
+        };
+    }
+    store::clear(out);
+    Wrote {
+        room: false,
+        length: 0,
+        shifts: 0,
+        table: table,
+        last: last,
+    }
+}
