@@ -121,6 +121,6 @@ fn a_missing_name_is_found() {
     assert_eq!(faults("Pels `contexts`", &short).len(), 1);
     assert_eq!(faults("`crates/template/specs/Pel.antt`", &short).len(), 1);
     assert_eq!(faults("`context` of no file", &short).len(), 1);
-    assert_eq!(faults("`pages::open`, `pages::shut`", &short).len(), 1);
+    assert_eq!(faults("`opening::open`, `opening::shut`", &short).len(), 1);
     assert_eq!(faults("`counter::school`", &short).len(), 1);
 }

@@ -1,5 +1,9 @@
-// What the programs write: text, numbers, bytes in hexadecimal, answers.
+// What the programs ask, and what they write: text, numbers, bytes in hexadecimal, answers.
 use desk::Answer;
+use desk::Ask;
+use desk::Direction;
+use desk::Key;
+use desk::Opening;
 use libc::STDOUT_FILENO;
 
 const DIGITS: [u8; 16] = *b"0123456789ABCDEF";
@@ -34,4 +38,35 @@ pub fn put_answer(a: Answer) {
     put_number(a.length);
     put_text(b", S ");
     put_number(a.shifts);
+}
+
+pub fn key_of(school: u64, class: u64) -> Key {
+    Key {
+        school: school,
+        class: class,
+    }
+}
+
+// A page to write, of that width.
+pub fn page_of(key: Key, width: u64) -> Opening {
+    Opening {
+        key: key,
+        direction: Direction::Write,
+        width: width,
+    }
+}
+
+// A band of that many rows.
+pub fn band_of(key: Key, count: u64) -> Ask {
+    Ask {
+        key: key,
+        rows: count,
+    }
+}
+
+// A line: the name of what was asked, and the answer.
+pub fn line(name: &[u8], a: Answer) {
+    put_text(name);
+    put_answer(a);
+    put_text(b"\n");
 }

@@ -2,8 +2,8 @@
 use Prim.Native.Nat.{_≤_, _-_}
 use borrow.Author.Needs.{needs}
 use lib.ListN.{length}
-use Rattle.cases.proofs.put_contexts.Statement.{statement}
-use Rattle.cases.proofs.put_contexts.Tie as tie
+use Rattle.schools.proofs.put_contexts.Statement.{statement}
+use Rattle.schools.proofs.put_contexts.Tie as tie
 
 abbrev Inv-loop : tie.InvT-loop
 Inv-loop table i₀ t3 t4 t5 i = i ≤ length table
