@@ -14,13 +14,14 @@ use limits::PAGES;
 use limits::PLACES;
 use limits::ROW;
 
+// A page belongs to a key: a school number and a class number.
 #[repr(C)]
 pub struct Key {
     pub school: u64,
     pub class: u64,
 }
 
-// The direction of a page.
+// The direction is write or read, of a kind that has no third value.
 pub enum Direction {
     Write,
     Read,
@@ -54,7 +55,7 @@ pub struct PlaceLine {
     pub key: Key,
 }
 
-// All small numbers. It goes by value.
+// The lines of all pages and places: all small numbers. It goes by value.
 #[repr(C)]
 pub struct Book {
     pub pages: [PageLine; PAGES],
