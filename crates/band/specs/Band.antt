@@ -15,10 +15,11 @@ use Rattle.octets.specs.Octets.{Registers, start, part, pel, code}
 use Rattle.template.specs.Pels.{rowBytes, pelsTo, rowAt, bandTo, bandPadded, context}
 
 -- ---- the Q-coder with our seven-pel template
+-- the template, the value Q of an entry's row, the next entry
 abbrev pub qScheme : Scheme
 qScheme = record { template = context; size = rowOf; next = next }
 
--- there was a shift where the pel's part is below 1000 hex
+-- the Q-coder as a writer: there was a shift where the pel's part is below 1000 hex
 abbrev pub qWriter : Writer
 qWriter =
     record {
@@ -30,6 +31,7 @@ qWriter =
       code = code;
     }
 
+-- a page of that width under the Q-coder, as a model
 abbrev pub qPage : ℕ → Model
 qPage width = page qScheme width
 
@@ -48,9 +50,12 @@ pub record Written : Type 0 where
   pub table : List ℕ
   pub last : List ℕ
 
+-- the last row of a band; the rest of the room for it is zero
 unfoldable pub lastRow : ℕ → ℕ → List ℕ → List ℕ
 lastRow width rows band = rowAt width band (rows - 1) ++ replicate (lastBytes - rowBytes width) 0
 
+-- Written bytes are those of the Q-coder, with our seven-pel template, from the page's working table and last row at
+-- that moment.
 unfoldable pub written : ℕ → ℕ → List ℕ → List ℕ → List ℕ → Written
 written width rows table last band =
     let m : Page = pageAt width table last in

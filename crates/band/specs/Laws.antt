@@ -33,6 +33,7 @@ module _ (width : ℕ) where
   run-is (p ∷ ps) s = run-is ps (step (qPage width) qWriter s p)
 
 module _ (width rows : ℕ) (table last band : List ℕ) where
+  -- where the band starts: the page's table and last row, and a new code
   abbrev opened : Stage (qPage width) qWriter
   opened = record { model = pageAt width table last; writer = start }
 
@@ -60,7 +61,7 @@ module _ (width rows : ℕ) (table last band : List ℕ) where
       ≡ exact decided whole .low * 2 ^ places 0 (written width rows table last band .code)
   code-value = subst₂ (λ (c : List ℕ) (s : ℕ). value c * 2 ^ (12 + s) ≡ exact decided whole .low * 2 ^ places 0 c) code-is shifts-is (value-written decided sizes)
 
-  -- what a band can cost, given S
+  -- For n of 2 or more, 8(n-1) less the whole half of (n-1) is at most 11 + S: what a band can cost, given S.
   pub code-length : 2 ≤ length (written width rows table last band .code)
       → 8 * (length (written width rows table last band .code) - 1) - (length (written width rows table last band .code) - 1) / 2 ≤ 11 + written width rows table last band .shifts
   code-length =

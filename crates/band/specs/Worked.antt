@@ -19,10 +19,11 @@ pub record SoFar : Type 0 where
   pub table : List ℕ
   pub last : List ℕ
 
+-- a new page: the fresh table, last row white
 abbrev pub new : SoFar
 new = record { table = fresh; last = white }
 
--- after a band of one row
+-- the page after a band of one row
 abbrev pub then : ℕ → SoFar → List ℕ → SoFar
 then width page band = record { table = written width 1 (page .table) (page .last) band .table; last = written width 1 (page .table) (page .last) band .last }
 
@@ -33,15 +34,18 @@ pub data Case : Type 0 where
   unexpected : ℕ → ℕ → ℕ → ℕ → Case
   damaged : ℕ → ℕ → List ℕ → Case
 
+-- what a row claims
 abbrev pub Holds : Case → Type 0
 Holds (band width rows page pels c s) = (written width rows (page .table) (page .last) pels .code ≡ c) × (written width rows (page .table) (page .last) pels .shifts ≡ s)
 Holds (unexpected i s i′ s′) = next false (entryOf i s) ≡ entryOf i′ s′
 Holds (damaged width rows c) = (pels : List ℕ) → length pels ≡ rows * rowBytes width → written width rows (new .table) (new .last) pels .code ≡ c → ⊥
 
+-- every row holds
 abbrev pub All : List Case → Type 0
 All [] = Unit {0}
 All (k ∷ ks) = Holds k × All ks
 
+-- document 01's table: P1 to P9; P10, for both senses; P11
 abbrev pub cases : List Case
 cases =
     band 1 1 new (0x00 ∷ []) (0xAC ∷ 0x10 ∷ []) 2
@@ -98,6 +102,7 @@ three-zeros = one-pel (0 ∷ 0 ∷ 0 ∷ []) (longer 3 2 _ _ refl refl (λ e. om
 none : Holds (damaged 1 1 [])
 none = one-pel [] (longer 0 2 _ _ refl refl (λ e. omega arith)) (longer 0 2 _ _ refl refl (λ e. omega arith))
 
+-- the single claim: every row of the table holds
 pub worked : All cases
 unfolding written lastRow white after contextOf entryAt size sense taught placed move rowOf rise fall flip next fresh bits carried left byte due shifts pads cover finish bytes code pelAt pelsTo bandTo leftOf rightOf context
 worked =

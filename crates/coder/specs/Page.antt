@@ -20,15 +20,19 @@ pub record Page : Type 0 where
   pub this : List ℕ
 
 module _ (S : Scheme) (width : ℕ) where
+  -- the context of the next pel
   unfoldable pub contextOf : Page → ℕ
   contextOf m = S .template (m .above) (m .this) (length (m .this))
 
+  -- the table's entry at that context
   unfoldable pub entryAt : Page → ℕ
   entryAt m = getD (m .table) (contextOf m) 0
 
+  -- the size that this entry stands for
   unfoldable pub size : Page → ℕ
   size m = S .size (entryAt m)
 
+  -- The sense is the pel value expected.
   unfoldable pub sense : Page → ℕ
   sense m = entryAt m % 2
 
@@ -40,8 +44,10 @@ module _ (S : Scheme) (width : ℕ) where
   unfoldable pub placed : List ℕ → List ℕ → List ℕ → Page
   placed table above this = cond (eqb (length this) width) (record { table = table; above = this; this = [] }) (record { table = table; above = above; this = this })
 
+  -- the page after one pel more
   unfoldable pub move : Page → ℕ → Bool → Page
   move m p shifted = placed (taught m p shifted) (m .above) (m .this ++ (p ∷ []))
 
+  -- a page of that width, as a model
   abbrev pub page : Model
   page = record { State = Page; size = size; sense = sense; move = move }

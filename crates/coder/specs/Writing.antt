@@ -35,6 +35,7 @@ module _ (A : Model) (W : Writer) where
       let e : Bool = eqb p (A .sense (s .model)) in
       record { model = A .move (s .model) p (W .moves q e (s .writer)); writer = W .put q e (s .writer) }
 
+  -- where a band stands after these pels
   unfoldable pub after : Stage A W → List ℕ → Stage A W
   after s [] = s
   after s (p ∷ ps) = after (step s p) ps
@@ -43,12 +44,15 @@ module _ (A : Model) (W : Writer) where
   abbrev pub opening : A .State → Stage A W
   opening m = record { model = m; writer = W .start }
 
+  -- the code of a band of these pels
   abbrev pub bandCode : A .State → List ℕ → List ℕ
   bandCode m ps = W .code (after (opening m) ps .writer)
 
+  -- the S of a band of these pels: its shifts, counted
   abbrev pub bandCount : A .State → List ℕ → ℕ
   bandCount m ps = W .count (after (opening m) ps .writer)
 
+  -- what is learned after a band of these pels
   abbrev pub bandModel : A .State → List ℕ → A .State
   bandModel m ps = after (opening m) ps .model
 

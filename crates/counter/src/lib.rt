@@ -18,6 +18,7 @@ use parts::Parts;
 // The bytes of a desk: a page has a line of 32, a table and a row; a place has a line of 24 and a table.
 const DESK_BYTES: usize = PAGES * (32 + CONTEXTS + ROW) + PLACES * (24 + CONTEXTS);
 
+// How many bytes a desk has.
 #[no_mangle]
 pub extern "C" fn siftpebble_desk_bytes() -> usize
     ensures { λ r. ⌜ r ≡ deskBytes ⌝ }
@@ -25,6 +26,7 @@ pub extern "C" fn siftpebble_desk_bytes() -> usize
     DESK_BYTES
 }
 
+// An empty desk: no page is open, no class has a table.
 #[no_mangle]
 pub extern "C" fn siftpebble_empty(desk: &mut Parts)
     ensures { λ _. ⌜ (deskOf (now (desk .exit)) ≡ emptyDesk) × Whole (now (desk .exit)) ⌝ }
@@ -33,6 +35,7 @@ pub extern "C" fn siftpebble_empty(desk: &mut Parts)
     desk.book = book;
 }
 
+// Open, to write: working table = the class's learned table, or the fresh one; last row white.
 #[no_mangle]
 pub extern "C" fn siftpebble_open_write(
     desk: &mut Parts,
@@ -55,6 +58,7 @@ pub extern "C" fn siftpebble_open_write(
     r.answer
 }
 
+// Open, to read: working table = the class's learned table, or the fresh one; last row white.
 #[no_mangle]
 pub extern "C" fn siftpebble_open_read(
     desk: &mut Parts,
@@ -77,6 +81,7 @@ pub extern "C" fn siftpebble_open_read(
     r.answer
 }
 
+// Close: the working table becomes the class's learned table. The page is gone.
 #[no_mangle]
 pub extern "C" fn siftpebble_close(desk: &mut Parts, school: u64, class: u64) -> Answer
     ensures { λ r. ⌜ Serves (now (desk .entry)) (closes (asKey school class)) r (now (desk .exit)) [] ⌝ }
@@ -93,6 +98,7 @@ pub extern "C" fn siftpebble_close(desk: &mut Parts, school: u64, class: u64) ->
     r.answer
 }
 
+// Abandon: the page is gone, the learned table is as before; a place that was only reserved is free.
 #[no_mangle]
 pub extern "C" fn siftpebble_abandon(desk: &mut Parts, school: u64, class: u64) -> Answer
     ensures { λ r. ⌜ Serves (now (desk .entry)) (abandons (asKey school class)) r (now (desk .exit)) [] ⌝ }
@@ -109,6 +115,7 @@ pub extern "C" fn siftpebble_abandon(desk: &mut Parts, school: u64, class: u64) 
     r.answer
 }
 
+// Drop: the class's learned table is forgotten.
 #[no_mangle]
 pub extern "C" fn siftpebble_drop(desk: &mut Parts, school: u64, class: u64) -> Answer
     ensures { λ r. ⌜ Serves (now (desk .entry)) (drops (asKey school class)) r (now (desk .exit)) [] ⌝ }
@@ -125,6 +132,7 @@ pub extern "C" fn siftpebble_drop(desk: &mut Parts, school: u64, class: u64) -> 
     r.answer
 }
 
+// Look: the 128 bytes of the learned table in the front of the buffer, the rest kept.
 #[no_mangle]
 pub extern "C" fn siftpebble_look(
     desk: &mut Parts,
@@ -147,6 +155,7 @@ pub extern "C" fn siftpebble_look(
     r.answer
 }
 
+// Write band: the code in the front of the buffer, the rest kept; its length and S.
 #[no_mangle]
 pub extern "C" fn siftpebble_write(
     desk: &mut Parts,
@@ -174,6 +183,7 @@ pub extern "C" fn siftpebble_write(
     r.answer
 }
 
+// Read band: the rows in the front of the buffer, the rest kept; their bytes and S.
 #[no_mangle]
 pub extern "C" fn siftpebble_read(
     desk: &mut Parts,

@@ -5,5 +5,6 @@ use Rattle.unique.specs.Reading.{reading}
 use Rattle.desk.specs.Calls.{Call}
 use Rattle.serial.specs.Demand3.{Demand3, demand3}
 
+-- demand 3 of every run of calls, by the right reader
 pub any-order : (cs : List Call) → Demand3 reading cs
 any-order cs = demand3 reading cs

@@ -19,6 +19,7 @@ use Rattle.serial.specs.Run.{Step, stepOf, step}
 pub same-step : (R : Reader) (d : Desk) (c : Call) → step R d c ≡ step reading d c
 same-step R d c = ap (λ (f : Finder). stepOf (outcome f d c) (lent f d c)) (one-reader R)
 
+-- what a call's contract allows is the step of a run
 pub as-run : (d : Desk) (c : Call) (r : Outcome) (after : List ℕ) → Allowed d c r after → stepOf r after ≡ step reading d c
 as-run d c r after p = ap₂ stepOf (p .outcome) (p .lent) ∙ same-step (p .reader) d c
 

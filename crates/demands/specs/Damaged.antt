@@ -23,7 +23,7 @@ use Rattle.desk.specs.Allowed.{Allowed}
 use Rattle.desk.specs.Passed.{numbered}
 use Rattle.demands.specs.Demand1.{answers}
 
--- the tests of other numbers
+-- the tests of other numbers than n
 unfoldable pub without : ℕ → List Row → List Row
 without n [] = []
 without n (r ∷ rs) = cond (eqb (r .number) n) (without n rs) (r ∷ without n rs)
@@ -85,6 +85,7 @@ module _ (d : Desk) (ask : Ask) (code out : List ℕ) where
     number-is = answers d (reads ask code out) r after a ∙ last-ten (without 10 (tests readBack (reads ask code out) (stand d (ask .key)))) (not
         (given found)) refl
 
+    -- a read that answers 10 passes its other tests, and no band of that size would have been written so
     pub damaged : r .answer .number ≡ 10 → (otherwise ≡ 0) × Unwritten
     unfolding foundIn
     damaged e =
@@ -94,6 +95,7 @@ module _ (d : Desk) (ask : Ask) (code out : List ℕ) where
               (a .reader .right (p .width) (ask .rows) (p .table .entries) (p .last) code),
         )
 
+    -- a read that passes its other tests answers 10 where no band of that size would have been written so
     pub only-then : otherwise ≡ 0 → Unwritten → r .answer .number ≡ 10
     unfolding foundIn
     only-then e u =

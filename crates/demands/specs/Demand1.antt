@@ -22,6 +22,7 @@ use Rattle.kept.specs.Bands.{zero-get}
 use Rattle.desk.specs.Allowed.{done, unless, unlessLent, number, effectOn, outcome, lent, Allowed}
 
 -- ---- a number of the table
+-- the number n stands in a list
 unfoldable pub isIn : ℕ → List ℕ → Bool
 isIn n [] = false
 isIn n (m ∷ ms) = eqb n m || isIn n ms
@@ -63,7 +64,7 @@ numbered (r ∷ rs) ns h =
     go false i (inl e) = inl e
     go false i (inr e) = inr (in-from (r .number) (refusal rs) ns e)
 
--- what a refusal is
+-- what a refusal is: length 0, S = 0, the desk as it was, the lent output as its number says
 pub record Refused (d : Desk) (c : Call) (r : Outcome) (after : List ℕ) : Type 0 where
   pub length : r .answer .length ≡ 0
   pub shifts : r .answer .shifts ≡ 0
@@ -80,10 +81,11 @@ module _ (d : Desk) (c : Call) (r : Outcome) (after : List ℕ) (p : Allowed d c
   unfolding number outcome
   answers = ap (λ (o : Outcome). o .answer .number) (p .outcome) ∙ unless-number (refusal (tests (p .reader .finds) c (stand d (keyOf c)))) d _ refl
 
-  -- and it stands in the table
+  -- that number is 0 or stands in the table
   pub in-table : (r .answer .number ≡ 0) ⊎ (isIn (r .answer .number) order ≡ true)
   in-table = rw answers (numbered (tests (p .reader .finds) c (stand d (keyOf c))) order (in-order (p .reader .finds) c (stand d (keyOf c))))
 
+  -- A refused call changes no table and no open page.
   pub refused : r .answer .number ≢ 0 → Refused d c r after
   unfolding outcome lent number
   refused h = go (number (p .reader .finds) d c) (p .outcome) (p .lent)
@@ -102,12 +104,12 @@ module _ (d : Desk) (c : Call) (r : Outcome) (after : List ℕ) (p : Allowed d c
             lent = l ∙ ap (λ (m : ℕ). lentAfter m (lentTo c)) (sym (ap (λ (o : Outcome). o .answer .number) e));
           }
 
-  -- it leaves the lent output alone,
+  -- It leaves the lent output alone as well, but for 9 and 10.
   pub alone : r .answer .number ≢ 0 → r .answer .number ≢ 9 → r .answer .number ≢ 10 → after ≡ lentTo c
   unfolding lentAfter
   alone h i j = refused h .lent ∙ rw (ne-eqb (r .answer .number) 9 i, ne-eqb (r .answer .number) 10 j)
 
-  -- except that "no room" and "damaged" set all of it to zero
+  -- "no room" and "damaged" set all of the lent output to zero
   pub all-zero : (r .answer .number ≡ 9) ⊎ (r .answer .number ≡ 10) → (length after ≡ length (lentTo c)) × ((i : ℕ) → getD after i 0 ≡ 0)
   unfolding lentAfter cleared
   all-zero e = subst (λ (l : List ℕ). (length l ≡ length (lentTo c)) × ((i : ℕ) → getD l i 0 ≡ 0)) (sym (cleared-is e)) (
@@ -120,7 +122,7 @@ module _ (d : Desk) (c : Call) (r : Outcome) (after : List ℕ) (p : Allowed d c
       cleared-is (inl e) = refused (λ z. absurd (omega (arith, e, z))) .lent ∙ rw e
       cleared-is (inr e) = refused (λ z. absurd (omega (arith, e, z))) .lent ∙ rw e
 
-  -- a call that no test refuses does what it does
+  -- a call that no test refuses answers and does what its effect says
   pub accepted : (e : Effect) → number (p .reader .finds) d c ≡ 0 → effectOn (p .reader .finds) d c ≡ e
       → (r ≡ done (e .length) (e .shifts) (changed d (keyOf c) (e .page) (e .learned))) × (after ≡ e .lent)
   unfolding outcome lent

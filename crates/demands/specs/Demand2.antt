@@ -69,6 +69,8 @@ module _ (d : Desk) (ask : Ask) (pels out : List ℕ) (r : Outcome) (after : Lis
   unfolding stand
   page-is = ap (λ (o : Option Page). orElse o noPage) f
 
+  -- what an accepted write gives: its sizes are lawful, the bytes of the Q-coder stand in the front of the buffer,
+  -- length and S are theirs, and the page goes on
   pub record Wrote : Type 0 where
     pub desk-lawful : lawful d ≡ true
     pub rows : within 1 (ask .rows) maxRows ≡ true
@@ -80,6 +82,7 @@ module _ (d : Desk) (ask : Ask) (pels out : List ℕ) (r : Outcome) (after : Lis
     pub code : after ≡ inFront (bandOf p (ask .rows) pels .code) out
     pub page : openPage (r .desk) (ask .key) ≡ some (servedPage p (bandOf p (ask .rows) pels))
 
+  -- every accepted write gives that
   pub wrote : Wrote
   unfolding number tests effect stand hasRoom
   wrote =
@@ -157,6 +160,8 @@ module _ (d : Desk) (ask : Ask) (pels out : List ℕ) (r : Outcome) (after : Lis
         let roomy = le-ltb (length out′) (ask′ .rows * rowBytes (q .width)) fits in
         by-page (λ s. refusal (tests G (reads ask′ code out′) s)) ∙ (rw (law, known, within, long, eq-eqb (q .state) 2 way, roomy, found))
 
+    -- what reading it back gives: the read is accepted and answers the rows' bytes and the same S, the pels are given
+    -- back, and both pages are again in the same state
     pub record ReadBack : Type 0 where
       pub accepted : r′ .answer .number ≡ 0
       pub length : r′ .answer .length ≡ length pels
@@ -165,6 +170,7 @@ module _ (d : Desk) (ask : Ask) (pels out : List ℕ) (r : Outcome) (after : Lis
       pub again : front (r′ .answer .length) after′ ≡ pels
       pub state : (p₁ q₁ : Page) × (openPage (r .desk) (ask .key) ≡ some p₁) × (openPage (r′ .desk) (ask′ .key) ≡ some q₁) × SameState p₁ q₁
 
+    -- Read from that same state, they give the pels back.
     pub read-back : ReadBack
     unfolding effect servedPage
     read-back =

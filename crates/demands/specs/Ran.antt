@@ -16,6 +16,7 @@ use Rattle.serial.specs.Demand3.{Demand3, left}
 use Rattle.demands.specs.Certain.{as-run}
 use Rattle.demands.specs.AnyOrder.{any-order}
 
+-- a history: calls in a row, each with an outcome that its contract allows, on the desk that the call before it left
 pub data Ran : Desk → List (Entry calling) → Desk → Type 0 where
   begun : (d : Desk) → Ran d [] d
   more : (d : Desk) (c : Call) (r : Outcome) (lent : List ℕ) (es : List (Entry calling)) (d′ : Desk) → Allowed d c r lent → Ran (r .desk) es d′

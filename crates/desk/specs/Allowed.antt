@@ -12,16 +12,19 @@ use Rattle.desk.specs.Tests.{tests}
 use Rattle.desk.specs.Effects.{Effect, effect}
 use Rattle.desk.specs.Changes.{changed}
 
--- A refusal answers its number, length 0 and S = 0, and changes nothing in the desk. An accepted call answers 0 as its number.
+-- A refusal answers its number, length 0 and S = 0.
 abbrev pub refusedAs : ℕ → Answer
 refusedAs n = record { number = n; length = 0; shifts = 0 }
 
+-- An accepted call answers 0 as its number.
 abbrev pub doneAs : ℕ → ℕ → Answer
 doneAs len s = record { number = 0; length = len; shifts = s }
 
+-- A refusal changes nothing in the desk.
 abbrev pub refused : ℕ → Desk → Outcome
 refused n d = record { answer = refusedAs n; desk = d }
 
+-- an accepted call: its answer, and the desk after it
 abbrev pub done : ℕ → ℕ → Desk → Outcome
 done len s d = record { answer = doneAs len s; desk = d }
 
@@ -30,6 +33,7 @@ abbrev pub unless : ℕ → Desk → Outcome → Outcome
 unless zero d o = o
 unless (suc n) d o = refused (suc n) d
 
+-- the lent buffer after a refusal, or, where the number is 0, after an accepted call
 abbrev pub unlessLent : ℕ → List ℕ → List ℕ → List ℕ
 unlessLent zero out after = after
 unlessLent (suc n) out after = lentAfter (suc n) out
@@ -39,6 +43,7 @@ module _ (finds : Finder) (d : Desk) (c : Call) where
   unfoldable pub number : ℕ
   number = refusal (tests finds c (stand d (keyOf c)))
 
+  -- what the call does, where it is accepted
   abbrev pub effectOn : Effect
   effectOn = effect finds c (stand d (keyOf c))
 

@@ -10,9 +10,11 @@ use Rattle.desk.specs.declared.Found.the-variants.{At, Nothing}
 use Rattle.desk.specs.Places.{zeroTable, unusedPage, freePlace, pageFound, placeFound, tableFound, freePageFound, freePlaceFound, isFound}
 use Rattle.desk.specs.Effects.{Change, stays, gone, becomes}
 
+-- a place that is taken by a class with a learned table
 unfoldable pub learnedPlace : Key → Table → Place
 learnedPlace k t = record { state = 2; key = k; table = t }
 
+-- a place that is reserved by an open page whose class has none
 unfoldable pub reservedPlace : Key → Place
 reservedPlace k = record { state = 1; key = k; table = zeroTable }
 
@@ -25,6 +27,7 @@ setAt Nothing a xs = xs
 abbrev pub orFree : Found → Found → Found
 orFree f free = cond (isFound f) f free
 
+-- the pages after a change of the key's page
 unfoldable pub pagesAfter : Desk → Key → Change Page → List Page
 pagesAfter d k stays = d .pages
 pagesAfter d k gone = setAt (pageFound d k) unusedPage (d .pages)
@@ -41,5 +44,6 @@ placesAfter d k gone stays = cond (isFound (tableFound d k)) (d .places) (setAt 
 placesAfter d k (becomes p) stays =
     cond (isFound (pageFound d k) || isFound (tableFound d k)) (d .places) (setAt (freePlaceFound d) (reservedPlace k) (d .places))
 
+-- the desk after a change of the key's page and of its class's learned table
 unfoldable pub changed : Desk → Key → Change Page → Change Table → Desk
 changed d k p t = record { pages = pagesAfter d k p; places = placesAfter d k p t }

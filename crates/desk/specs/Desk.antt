@@ -5,7 +5,8 @@ use Rattle.estimate.specs.declared.Table.{Table}
 use Rattle.desk.specs.declared.Key.{Key}
 use Rattle.desk.specs.declared.Answer.{Answer}
 
--- a page's state: 0 unused, 1 open to write, 2 open to read
+-- A page, open or unused. Its state: 0 unused, 1 open to write, 2 open to read; its key, its width, its working table,
+-- its last row.
 pub record Page : Type 0 where
   pub state : ℕ
   pub key : Key
@@ -13,12 +14,14 @@ pub record Page : Type 0 where
   pub table : Table
   pub last : List ℕ
 
--- a place's state: 0 free, 1 reserved by an open page whose class has no table, 2 taken by a class with a learned table
+-- A class place. Its state: 0 free, 1 reserved by an open page whose class has no table, 2 taken by a class with a
+-- learned table; the key, the learned table.
 pub record Place : Type 0 where
   pub state : ℕ
   pub key : Key
   pub table : Table
 
+-- the desk: its pages and its class places
 pub record Desk : Type 0 where
   pub pages : List Page
   pub places : List Place

@@ -27,7 +27,9 @@ afterwards o stays = o
 afterwards o gone = none
 afterwards o (becomes a) = some a
 
--- Its length is n for a write, the bytes of all rows for a read, 128 for a look and 0 for the others; its S is 0 except for a band.
+-- What an accepted call gives. Its length is n for a write, the bytes of all rows for a read, 128 for a look and 0 for
+-- the others; its S is 0 except for a band; the lent buffer after it; what becomes of the page and of the learned
+-- table.
 pub record Effect : Type 0 where
   pub length : ℕ
   pub shifts : ℕ
@@ -39,6 +41,7 @@ pub record Effect : Type 0 where
 abbrev pub does : Change Page → Change Table → Effect
 does p t = record { length = 0; shifts = 0; lent = []; page = p; learned = t }
 
+-- the fresh table
 abbrev pub freshTable : Table
 freshTable = record { entries = fresh }
 
@@ -62,6 +65,7 @@ module _ (finds : Finder) where
   abbrev pub bandIn : Page → ℕ → List ℕ → List ℕ
   bandIn p rows code = orElse (foundIn finds p rows code) []
 
+  -- what each call answers, lends back and does, where no test refuses it
   unfoldable pub effect : Call → Stand → Effect
   -- working table = the class's learned table, or the fresh one
   effect (opens ask) s = does (becomes (newPage ask (orElse (s .learned) freshTable))) stays

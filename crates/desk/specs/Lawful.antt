@@ -11,14 +11,16 @@ use Rattle.desk.specs.declared.Key.{Key}
 use Rattle.desk.specs.Desk.{Page, Place, Desk}
 use Rattle.desk.specs.Places.{isUsed, noKey, sameKey, isPageOf, isPlaceOf}
 
+-- a number from low to high
 abbrev pub within : ℕ → ℕ → ℕ → Bool
 within low n high = leb low n && leb n high
 
--- every element passes; some element passes
+-- every element passes
 unfoldable pub all : {A : Type 0} → (A → Bool) → List A → Bool
 all test [] = true
 all test (x ∷ xs) = test x && all test xs
 
+-- some element passes
 unfoldable pub any : {A : Type 0} → (A → Bool) → List A → Bool
 any test [] = false
 any test (x ∷ xs) = test x || any test xs
@@ -36,6 +38,7 @@ lawfulKey k = within 1 (k .school) maxKey && within 1 (k .class) maxKey
 abbrev pub lawfulTable : List ℕ → Bool
 lawfulTable t = all (λ e. leb (indexOf e) 29) t
 
+-- every number is zero
 abbrev pub isZero : List ℕ → Bool
 isZero xs = all (λ x. eqb x 0) xs
 
@@ -57,20 +60,24 @@ lawfulPlace q =
     (leb (q .state) 2 && (lawfulKey (q .key) && cond (eqb (q .state) 2) (lawfulTable (q .table .entries)) (isZero (q .table .entries))))
     (sameKey (q .key) noKey && isZero (q .table .entries))
 
--- both are used, under one key
+-- both pages are open, under one key
 abbrev pub samePages : Page → Page → Bool
 samePages p q = isUsed (p .state) && isPageOf (p .key) q
 
+-- both places are used, under one key
 abbrev pub samePlaces : Place → Place → Bool
 samePlaces p q = isUsed (p .state) && isPlaceOf (p .key) q
 
--- an open page has its place; a reserved place has its page
+-- an open page has its place
 abbrev pub pageHasPlace : List Place → Page → Bool
 pageHasPlace places p = not (isUsed (p .state)) || any (isPlaceOf (p .key)) places
 
+-- a reserved place has its page
 abbrev pub placeHasPage : List Page → Place → Bool
 placeHasPage pages q = not (eqb (q .state) 1) || any (isPageOf (q .key)) pages
 
+-- A desk is lawful when its pages and places are, different open pages and different used places have different keys,
+-- each open page has its place, and each reserved place has its page.
 unfoldable pub lawful : Desk → Bool
 lawful d =
     (all lawfulPage (d .pages) && all lawfulPlace (d .places))

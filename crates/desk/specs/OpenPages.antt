@@ -77,12 +77,14 @@ open-page d k i l f =
     page-open (getD (d .pages) i noPage) (a .0) (both _ _ (a .1) .0)
 
 -- ---- a key is its two numbers
+-- a key is the same as itself
 pub key-self : (k : Key) → sameKey k k ≡ true
 key-self k = simp self
   where
     self : (n : ℕ) → eqb n n ≡ true
     self n = eq-eqb n n refl
 
+-- keys that are the same are equal
 pub key-only : (j k : Key) → sameKey j k ≡ true → j ≡ k
 key-only j k h =
     let p = both (eqb (j .school) (k .school)) (eqb (j .class) (k .class)) h in

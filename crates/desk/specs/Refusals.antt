@@ -11,6 +11,7 @@ pub record Row : Type 0 where
   pub number : ℕ
   pub holds : Bool
 
+-- a test by its number and by whether it holds
 abbrev pub row : ℕ → Bool → Row
 row n b = record { number = n; holds = b }
 

@@ -22,22 +22,25 @@ pub record Stand : Type 0 where
 abbrev pub pageOf : Stand → Page
 pageOf s = orElse (s .page) noPage
 
--- what a lookup's answer means: the page, the learned table at the index found, or none
+-- what a lookup's answer means: the page at the index found, or none
 abbrev pub pageBy : Desk → Found → Option Page
 pageBy d (At i) = some (pageAt d (At i))
 pageBy d Nothing = none
 
+-- what a lookup's answer means: the learned table at the index found, or none
 abbrev pub tableBy : Desk → Found → Option Table
 tableBy d (At i) = some (placeAt d (At i) .table)
 tableBy d Nothing = none
 
--- a key's open page, a class's learned table
+-- a key's open page
 abbrev pub openPage : Desk → Key → Option Page
 openPage d k = pageBy d (pageFound d k)
 
+-- a class's learned table
 abbrev pub learnedTable : Desk → Key → Option Table
 learnedTable d k = tableBy d (tableFound d k)
 
+-- what a call under the key k meets at the desk d
 unfoldable pub stand : Desk → Key → Stand
 stand d k =
     record {

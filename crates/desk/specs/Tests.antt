@@ -21,10 +21,11 @@ use Rattle.desk.specs.Standing.{Stand, pageOf}
 unfoldable pub bandOf : Page → ℕ → List ℕ → Written
 bandOf p rows pels = written (p .width) rows (p .table .entries) (p .last) pels
 
--- every call's first tests: the desk is not lawful; school or class number is 0 or above 65,535
+-- every call's first test: the desk is not lawful
 abbrev pub unlawful : Stand → Row
 unlawful s = row 12 (not (s .sound))
 
+-- every call's second test: the school or class number is 0 or above 65,535
 abbrev pub unknown : Key → Row
 unknown k = row 1 (not (lawfulKey k))
 
@@ -33,6 +34,7 @@ module _ (finds : Finder) where
   unfoldable pub foundIn : Page → ℕ → List ℕ → Option (List ℕ)
   foundIn p rows code = finds (p .width) rows (p .table .entries) (p .last) code
 
+  -- the tests of each call, in the order in which they are tested
   unfoldable pub tests : Call → Stand → List Row
   tests (opens ask) s =
       unlawful s

@@ -1,13 +1,14 @@
 // The desk's parts: the lines of its book, how they are found, and how a page and a place are put.
 ghost use lib.ListN.{length};
 
+// A page belongs to a key: a school number and a class number.
 #[repr(C)]
 pub struct Key {
     pub school: u64,
     pub class: u64,
 }
 
-// The direction of a page.
+// The direction is write or read, of a kind that has no third value.
 pub enum Direction {
     Write,
     Read,

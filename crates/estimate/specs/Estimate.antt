@@ -17,9 +17,11 @@ rows =
 abbrev pub entryOf : ℕ → ℕ → ℕ
 entryOf index sense = 2 * index + sense
 
+-- the index of an entry
 abbrev pub indexOf : ℕ → ℕ
 indexOf e = e / 2
 
+-- the sense of an entry: the pel value expected
 abbrev pub senseOf : ℕ → ℕ
 senseOf e = e % 2
 
@@ -31,11 +33,12 @@ rowOf e = getD rows (indexOf e) 1
 unfoldable pub rise : ℕ → ℕ
 rise i = min 29 (i + 1)
 
--- After an unexpected pel it falls by 1 at rows 1 to 6; by 3 at rows 24, 26 and 28; by 2 at every other row from 7 up. At row 0 it stays 0
+-- After an unexpected pel the index falls by 1 at rows 1 to 6; by 3 at rows 24, 26 and 28; by 2 at every other row from
+-- 7 up. At row 0 it stays 0.
 unfoldable pub fall : ℕ → ℕ
 fall i = cond (eqb i 0) 0 (cond (ltb i 7) 1 (cond ((eqb i 24 || eqb i 26) || eqb i 28) 3 2))
 
--- and the sense flips; no other row flips it.
+-- At row 0 the sense flips; no other row flips it.
 unfoldable pub flip : ℕ → ℕ → ℕ
 flip i sense = cond (eqb i 0) (1 - sense) sense
 

@@ -82,6 +82,7 @@ unfolding next flip
 next-fall e f h k = let l : fall (e / 2) ≤ e / 2 = fall-small (e / 2) in (omega arith, rw (ne-eqb (e / 2) 0 k) (omega arith))
 
 -- ---- tables
+-- A fresh table has 128 contexts, every one index 0 and sense 0.
 pub fresh-entry : (cx : ℕ) → cx < contexts → (indexOf (getD fresh cx 0) ≡ 0) × (senseOf (getD fresh cx 0) ≡ 0)
 unfolding fresh
 fresh-entry cx h =

@@ -11,6 +11,7 @@ pub record Row : Type 0 where
   pub down : ℕ
   pub switch : ℕ
 
+-- a row by its four numbers
 abbrev row : ℕ → ℕ → ℕ → ℕ → Row
 row size up down switch = record { size = size; up = up; down = down; switch = switch }
 
@@ -33,6 +34,7 @@ pub numbersFrom : ℕ → ℕ → List ℕ
 numbersFrom i zero = []
 numbersFrom i (suc n) = i ∷ numbersFrom (suc i) n
 
+-- Source document 000's table agrees after its left shift of three places.
 pub agrees : source ≡ map ruled (numbersFrom 0 30)
 unfolding source ruled numbersFrom rowOf rise fall flip
 agrees = refl

@@ -4,6 +4,7 @@ use mathlib.Core.Bool.{Bool, true, false}
 use mathlib.Core.Option.{Option, some, none}
 use Rattle.ground.specs.Bools.{no-way}
 
+-- whether something is there
 abbrev pub given : {A : Type 0} → Option A → Bool
 given none = false
 given (some a) = true

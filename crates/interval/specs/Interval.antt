@@ -9,6 +9,7 @@ pub record Decision : Type 0 where
   pub q : ℕ
   pub expected : Bool
 
+-- a decision by its two parts
 abbrev pub decision : ℕ → Bool → Decision
 decision q e = record { q = q; expected = e }
 
@@ -24,6 +25,7 @@ upperPart q i = record { low = i .low + q; width = i .width - q; count = i .coun
 abbrev pub lowerPart : ℕ → Interval → Interval
 lowerPart q i = record { low = i .low; width = q; count = i .count }
 
+-- the pel's part of the interval
 abbrev pub partOf : Decision → Interval → Interval
 partOf d i = cond (d .expected) (upperPart (d .q) i) (lowerPart (d .q) i)
 
@@ -41,6 +43,6 @@ unfoldable pub doublings : ℕ → ℕ → ℕ
 doublings zero a = 0
 doublings (suc n) a = let k : ℕ = suc (doublings n (2 * a)) in cond (ltb a 0x1000) k 0
 
--- One pel.
+-- One pel: its part of the interval, and the doublings.
 abbrev pub coded : Decision → Interval → Interval
 coded d i = grown 12 (partOf d i)

@@ -108,9 +108,11 @@ roomed zero false false e = record { rest = refl; page = refl; place = refl }
 roomed (suc n) p q e = absurd (omega arith)
 
 module _ (R : Reader) (d : Desk) (h : lawful d ≡ true) (c : Call) where
+  -- the call's key
   abbrev k : Key
   k = keyOf c
 
+  -- what the call does, where it is accepted
   abbrev e : Effect
   e = effectOn (R .finds) d c
 
@@ -129,7 +131,7 @@ module _ (R : Reader) (d : Desk) (h : lawful d ≡ true) (c : Call) where
       (f .clean)) (f .page) (f .table)
       (slot-wanted d s k (e .page) (e .learned) ∙ m .page) (place-wanted d s k (e .page) (e .learned) ∙ m .place)
 
-  -- what stands under the key then
+  -- after an accepted call the key's page and its class's learned table are what the call made of them
   pub call-leaves : number (R .finds) d c ≡ 0
       → (openPage (outcome (R .finds) d c .desk) k ≡ afterwards (openPage d k) (e .page)) × (learnedTable (outcome (R .finds) d c .desk) k
       ≡ afterwards (learnedTable d k) (e .learned))
@@ -151,17 +153,20 @@ module _ (R : Reader) (d : Desk) (h : lawful d ≡ true) (c : Call) where
                 (o : Option Table). afterwards o (e .learned)) (sym (learned-is d s k)),
           )
 
+  -- every call keeps a lawful desk lawful, and other keys see no change
   pub call-keeps : Keeps k d (outcome (R .finds) d c .desk)
   unfolding outcome
   call-keeps =
       by-number (Keeps k d) (number (R .finds) d c) d (done (e .length) (e .shifts) (changed d k (e .page) (e .learned))) (keeps-same k d h)
       (λ z. keeps-stored d (changed d k (e .page) (e .learned)) k _ s (call-stored z))
 
+  -- every call keeps a lawful desk lawful
   pub call-lawful : lawful (outcome (R .finds) d c .desk) ≡ true
   call-lawful = call-keeps .stays-lawful
 
 -- While a page is open a look still shows the old table: a band changes no learned table, and a look shows nothing else.
 module _ (R : Reader) (d : Desk) (h : lawful d ≡ true) (c : Call) where
+  -- a band changes no learned table
   pub band-tables : kindOf c ≡ band → (j : Key) → learnedTable (outcome (R .finds) d c .desk) j ≡ learnedTable d j
   unfolding KindLaw outcome
   band-tables q j = go (sameKey (keyOf c) j) refl
@@ -178,6 +183,7 @@ module _ (R : Reader) (d : Desk) (h : lawful d ≡ true) (c : Call) where
           (R .finds) d c) refl)
       go false e = call-keeps R d h c .others-same j e .table
 
+  -- While a page is open a look still shows the old table: after a band it leaves in its buffer what it left before it.
   pub band-looks : kindOf c ≡ band → (j : Key) (out : List ℕ) → lent (R .finds) (outcome (R .finds) d c .desk) (looks j out) ≡ lent (R .finds) d
       (looks j out)
   unfolding lent number stand tests effect

@@ -5,20 +5,23 @@ use Prim.Native.Nat.{ℕ, _+_, _*_, _/_}
 abbrev pub maxKey : ℕ
 maxKey = 65535
 
--- At most 4 open pages and 8 class places.
+-- At most 4 open pages.
 abbrev pub maxPages : ℕ
 maxPages = 4
 
+-- At most 8 class places.
 abbrev pub maxPlaces : ℕ
 maxPlaces = 8
 
--- Width 1 to 2,048. A band has 1 to 64 rows. A code has at most 32,768 bytes.
+-- Width 1 to 2,048.
 abbrev pub maxWidth : ℕ
 maxWidth = 2048
 
+-- A band has 1 to 64 rows.
 abbrev pub maxRows : ℕ
 maxRows = 64
 
+-- A code has at most 32,768 bytes.
 abbrev pub maxCode : ℕ
 maxCode = 32768
 

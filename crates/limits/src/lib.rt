@@ -3,14 +3,16 @@
 // A school or class number is 1 to this.
 pub const MAX_KEY: u64 = 65535;
 
-// Open pages, and class places.
+// Open pages.
 pub const PAGES: usize = 4;
 
+// Class places.
 pub const PLACES: usize = 8;
 
-// A page's width and a band's rows are 1 to these.
+// A page's width is 1 to this.
 pub const MAX_WIDTH: u64 = 2048;
 
+// A band's rows are 1 to this.
 pub const MAX_ROWS: u64 = 64;
 
 // No code is longer.

@@ -25,11 +25,11 @@ start = record { interval = whole; until = 12; held = 0; settled = [] }
 unfoldable pub bits : ℕ → ℕ
 bits b = cond (eqb b 0xff) 7 8
 
--- A carry found when a byte goes out is added to the byte before it, unless that byte is FF;
+-- A carry found when a byte goes out is added to the byte before it, unless that byte is FF.
 unfoldable pub carried : ℕ → ℕ → ℕ
 carried h c = cond (eqb h 0xff) h (h + c / 2 ^ 24)
 
--- then the carry stays where it is, and is the stuff bit.
+-- The lower end without that carry; after FF the carry stays where it is, and is the stuff bit.
 unfoldable pub left : ℕ → ℕ → ℕ
 left h c = cond (eqb h 0xff) c (c % 2 ^ 24)
 
@@ -45,6 +45,7 @@ byte w =
       settled = w .settled ++ (b ∷ []);
     }
 
+-- a byte goes out when no shifts are to go
 unfoldable pub due : Registers → Registers
 due w = let v : Registers = byte w in cond (eqb (w .until) 0) v w
 
@@ -57,13 +58,15 @@ unfoldable pub shifts : ℕ → Registers → Registers
 shifts zero w = w
 shifts (suc n) w = let r : Registers = shifts n (due (double w)) in cond (ltb (w .interval .width) 0x1000) r w
 
--- One pel: its part of the interval, and the shifts.
+-- the registers with another interval
 abbrev pub at : Interval → Registers → Registers
 at i w = record { interval = i; until = w .until; held = w .held; settled = w .settled }
 
+-- the pel's part of the interval
 abbrev pub part : Decision → Registers → Registers
 part d w = at (partOf d (w .interval)) w
 
+-- One pel: its part of the interval, and the shifts.
 abbrev pub pel : Decision → Registers → Registers
 pel d w = shifts 12 (part d w)
 
@@ -71,7 +74,7 @@ unfoldable pub run : List Decision → Registers → Registers
 run [] w = w
 run (d ∷ ds) w = run ds (pel d w)
 
--- The end: bytes are made by the same rules, zeros shifted in,
+-- at the end: one zero shifted in
 abbrev pub pad : Registers → Registers
 pad w =
     record {
@@ -81,14 +84,17 @@ pad w =
       settled = w .settled;
     }
 
+-- n zeros shifted in
 unfoldable pub pads : ℕ → Registers → Registers
 pads zero w = w
 pads (suc n) w = pads n (pad w)
 
+-- at the end: a byte made by the same rules, zeros shifted in
 abbrev pub lastByte : Registers → Registers
 lastByte w = byte (pads (w .until) w)
 
--- until they cover the r bits of the lower end that are in no byte. Nothing else follows. Four bytes cover any 24 bits.
+-- At the end, bytes are made by the same rules, zeros shifted in, until they cover the r bits of the lower end that are
+-- in no byte. Nothing else follows. Here n bytes at the most.
 unfoldable pub cover : ℕ → ℕ → Registers → Registers
 cover zero r w = w
 cover (suc n) r w =
@@ -96,6 +102,7 @@ cover (suc n) r w =
     let rest : Registers = cover n (r - next .until) next in
     cond (eqb r 0) w rest
 
+-- The end. 24 bits less the shifts to go are in no byte yet; four bytes cover any 24 bits.
 unfoldable pub finish : Registers → Registers
 finish w = cover 4 (24 - w .until) w
 

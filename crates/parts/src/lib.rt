@@ -32,7 +32,7 @@ pub struct PlaceLine {
     pub key: Key,
 }
 
-// All small numbers. It goes by value.
+// The lines of all pages and places: all small numbers. It goes by value.
 #[repr(C)]
 pub struct Book {
     pub pages: [PageLine; PAGES],

@@ -39,6 +39,7 @@ module _ (R : Reader) (cs : List Call) where
   abbrev pub servedCalls : List Call
   servedCalls = calls calling left
 
+  -- demand 3 of a run of calls from an empty desk, sentence by sentence
   pub record Demand3 : Type 0 where
     -- one whole page at a time: an open, bands and a close of one key, directly after each other; between them only drops and looks
     pub whole : Whole calling left

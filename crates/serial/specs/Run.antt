@@ -20,6 +20,7 @@ pub record Step : Type 0 where
   pub lent : List ℕ
   pub desk : Desk
 
+-- a step by its outcome and its lent buffer
 abbrev pub stepOf : Outcome → List ℕ → Step
 stepOf o after = record { answer = o .answer; lent = after; desk = o .desk }
 
@@ -32,21 +33,25 @@ pub record Output : Type 0 where
 unfoldable pub markOf : ℕ → Mark
 markOf n = cond (eqb n 0) accepted (cond (eqb n 4 || eqb n 5) crowded refused)
 
+-- the desk's calls: whose they are, and of which kind
 abbrev pub calling : Service
 calling = record { Key = Key; same = sameKey; same-self = key-self; same-only = key-only; Call = Call; Output = Output; key = keyOf; kind = kindOf }
 
+-- a call with what it answered, and whether it was accepted
 abbrev pub entryOf : Call → Step → Entry calling
 entryOf c r = record { call = c; mark = markOf (r .answer .number); output = record { answer = r .answer; lent = r .lent } }
 
 module _ (R : Reader) where
+  -- one call at the desk d
   abbrev pub step : Desk → Call → Step
   step d c = stepOf (outcome (R .finds) d c) (lent (R .finds) d c)
 
-  -- ---- a run: each call with what it answered; and the desk at the end
+  -- a run: each call with what it answered
   unfoldable pub run : Desk → List Call → List (Entry calling)
   run d [] = []
   run d (c ∷ cs) = entryOf c (step d c) ∷ run (step d c .desk) cs
 
+  -- the desk at the end of a run
   unfoldable pub after : Desk → List Call → Desk
   after d [] = d
   after d (c ∷ cs) = after (step d c .desk) cs

@@ -27,18 +27,20 @@ unfoldable pub bandTo : ℕ → List ℕ → ℕ → List ℕ
 bandTo width band zero = []
 bandTo width band (suc n) = bandTo width band n ++ pelsTo (rowAt width band n) width
 
--- The padding bits of a row are zero bits; and those of a band's first n rows.
+-- Each row is padded with zero bits.
 unfoldable pub rowPadded : ℕ → List ℕ → Bool
 rowPadded width row = eqb (getD row (rowBytes width - 1) 0 % 2 ^ (8 * rowBytes width - width)) 0
 
+-- Each of a band's first n rows is padded so.
 unfoldable pub bandPadded : ℕ → List ℕ → ℕ → Bool
 bandPadded width band zero = true
 bandPadded width band (suc n) = bandPadded width band n && rowPadded width (rowAt width band n)
 
--- Outside the left or right edge a neighbour is 0: the pel d to the left of x, and the pel d to the right, of a row's pels.
+-- the pel d to the left of x, of a row's pels: outside the left edge a neighbour is 0
 unfoldable pub leftOf : List ℕ → ℕ → ℕ → ℕ
 leftOf row x d = cond (ltb x d) 0 (getD row (x - d) 0)
 
+-- the pel d to the right of x, of a row's pels: outside the right edge a neighbour is 0
 unfoldable pub rightOf : List ℕ → ℕ → ℕ → ℕ
 rightOf row x d = getD row (x + d) 0
 

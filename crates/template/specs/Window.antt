@@ -13,6 +13,7 @@ use Rattle.template.specs.declared.Window.{Window}
 use Rattle.template.specs.Pels.{pelAt, pelsTo, leftOf, rightOf, context}
 
 -- ---- the pels of a packed row, one by one
+-- Pels are 0 (white) or 1 (black).
 pub pel-bit : (row : List ℕ) (x : ℕ) → pelAt row x ≤ 1
 unfolding pelAt
 pel-bit row x = omega arith

@@ -13,7 +13,7 @@ use Rattle.ground.specs.Bools.{no-way}
 use Rattle.turns.specs.Service.{Keys, Service, put, Entry, calls}
 use Rattle.turns.specs.Desk.{one, placed}
 
--- a with l, or l alone
+-- a before l, or l alone
 abbrev pub keep : {A : Type 0} → Bool → A → List A → List A
 keep true a l = a ∷ l
 keep false a l = l

@@ -8,6 +8,7 @@ use Rattle.ground.specs.Options.{given}
 use Rattle.turns.specs.Service.{Mark, accepted, refused, crowded, keys, put, Entry}
 use Rattle.turns.specs.Office.{Cell, Result, refuse, accept, Office, cell, service}
 
+-- 1 for true, 0 for false
 abbrev pub one : Bool → ℕ
 one true = 1
 one false = 0

@@ -15,6 +15,7 @@ module _ (S : Service) where
   keep-append false e es fs = refl
 
   -- ---- the order: the accepted closings, looks and drops stand in the serial order as they stood in the run
+  -- the calls that have a place of their own: accepted closings, looks and drops
   abbrev standsAs : Mark → Kind → Bool
   standsAs refused κ = false
   standsAs crowded κ = false
@@ -25,6 +26,7 @@ module _ (S : Service) where
   standsAs accepted looking = true
   standsAs accepted changing = true
 
+  -- the calls of a list that have a place of their own
   unfoldable pub standing : List (Entry S) → List (Entry S)
   standing [] = []
   standing (e ∷ es) = keep (standsAs (e .mark) (kind (e .call))) e (standing es)
@@ -74,6 +76,7 @@ module _ (S : Service) where
 
   -- ---- one key: what the serial order has of a key is the serial order of that key's own calls
   module _ (k : Key) where
+    -- the calls of the key k
     unfoldable pub ofKey : List (Entry S) → List (Entry S)
     ofKey [] = []
     ofKey (e ∷ es) = keep (same (key (e .call)) k) e (ofKey es)

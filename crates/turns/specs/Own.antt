@@ -9,6 +9,8 @@ use Rattle.turns.specs.Strike.{strike, closedIn, leftAs, fateAs}
 use Rattle.turns.specs.Base.{keep, put-each}
 use Rattle.ground.specs.Bools.{no-way}
 
+-- A page's own calls are its open, its bands and its close or abandon; a look or drop of the same key is not one of
+-- them.
 abbrev pub ownKind : Kind → Bool
 ownKind opening = true
 ownKind band = true

@@ -37,6 +37,7 @@ module _ (S : Service) where
   servesAs accepted looking w e = e ∷ []
   servesAs accepted changing w e = e ∷ []
 
+  -- what is served of the calls to come, where these pages wait
   unfoldable pub serialFrom : Waiting → List (Entry S) → List (Entry S)
   serialFrom w [] = []
   serialFrom w (e ∷ es) = servesAs (e .mark) (kind (e .call)) w e ++ serialFrom (waitsAs (e .mark) (kind (e .call)) w e) es
@@ -45,12 +46,14 @@ module _ (S : Service) where
   unfoldable pub serial : List (Entry S) → List (Entry S)
   serial es = serialFrom (λ k. []) es
 
-  -- ---- What "one whole page at a time" means: an accepted opening and accepted bands, all of one key ..
+  -- ---- What "one whole page at a time" means
+  -- a page that is begun: an accepted opening and accepted bands, all of one key
   pub data Begun (k : Key) : List (Entry S) → Type 0 where
     begins : (e : Entry S) → e .mark ≡ accepted → kind (e .call) ≡ opening → key (e .call) ≡ k → Begun k (e ∷ [])
     goes-on : (es : List (Entry S)) (e : Entry S) → Begun k es → e .mark ≡ accepted → kind (e .call) ≡ band → key (e .call) ≡ k → Begun k (es ++ (e ∷ []))
 
-  -- .. and the key's accepted closing directly after them; between whole pages only accepted calls on learned tables.
+  -- whole pages: each is begun, and the key's accepted closing stands directly after it; between them only accepted
+  -- calls on learned tables
   pub data Whole : List (Entry S) → Type 0 where
     nothing : Whole []
     page : (k : Key) (es : List (Entry S)) (e : Entry S) (rest : List (Entry S)) → Begun k es → e .mark ≡ accepted → kind (e .call) ≡ closing → key (e .call) ≡ k → Whole rest → Whole ((es ++ (e ∷ [])) ++ rest)

@@ -30,6 +30,7 @@ pub record Service : Type 1 where
   pub key : Call → Key
   pub kind : Call → Kind
 
+-- the keys of a service
 abbrev pub keys : Service → Keys
 keys S = record { Key = S .Key; same = S .same; same-self = S .same-self; same-only = S .same-only }
 

@@ -41,16 +41,18 @@ module _ (S : Service) where
   closedIn k [] = false
   closedIn k (e ∷ es) = fateAs (same (key (e .call)) k) (e .mark) (kind (e .call)) (closedIn k es)
 
-  -- what is left
+  -- "Strike out the refused calls and every page that was abandoned or never closed, with all its calls": what is left
   unfoldable pub strike : List (Entry S) → List (Entry S)
   strike [] = []
   strike (e ∷ es) = keep (leftAs (e .mark) (kind (e .call)) (closedIn (key (e .call)) es)) e (strike es)
 
   -- how many calls of the key k pass the test t
   module _ (k : Key) (t : Entry S → Bool) where
+    -- 1 for a call of the key k that passes the test t, else 0
     abbrev weight : Entry S → ℕ
     weight e = cond (same (key (e .call)) k) (one (t e)) 0
 
+    -- how many calls of the key k pass the test t
     unfoldable pub count : List (Entry S) → ℕ
     count [] = 0
     count (e ∷ es) = weight e + count es

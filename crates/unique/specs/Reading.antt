@@ -55,11 +55,13 @@ module _ (width rows : ℕ) (table last code : List ℕ) where
   taken none a =
       λ l i e. a l (i .size) (i .octets) (ap₂ _&&_ (i .padded) (ap (λ (c : List ℕ). sameBytes c code) e ∙ bytes-same code))
 
+  -- what it finds is right
   pub right : Right width rows table last code (readBack width rows table last code)
   unfolding readBack
   right = taken (search 255 (rows * rowBytes width) (writtenSo width rows table last code)) (found 255 (rows * rowBytes width)
       (writtenSo width rows table last code))
 
+-- the right reader: it finds the band that is written so
 abbrev pub reading : Reader
 reading = record { finds = readBack; right = right }
 
