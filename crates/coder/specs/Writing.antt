@@ -1,8 +1,8 @@
--- Any binary arithmetic coder whose sizes are given from outside, and over it any model that adapts: how a band is written. Assumes nothing.
-use mathlib.Core.Path.{_≡_, refl}
-use Prim.Native.Nat.{ℕ, _≤_}
+-- Any binary arithmetic coder whose sizes are given from outside, and over it any model that adapts: how a band is
+-- written. Assumes nothing.
+use Prim.Native.Nat.{ℕ}
 use mathlib.Core.Bool.{Bool}
-use mathlib.Core.List.{List, [], _∷_, _++_}
+use mathlib.Core.List.{List, [], _∷_}
 use lib.Dec.{eqb}
 
 -- A writer: a pel of the size q is put in as the expected one or not; was there a shift; the shifts so far; the code if the band ends here.
@@ -55,14 +55,3 @@ module _ (A : Model) (W : Writer) where
   -- what is learned after a band of these pels
   abbrev pub bandModel : A .State → List ℕ → A .State
   bandModel m ps = after (opening m) ps .model
-
-  -- one list of pels after another
-  pub after-append : (ps qs : List ℕ) (s : Stage A W) → after s (ps ++ qs) ≡ after (after s ps) qs
-  unfolding after
-  after-append [] qs s = refl
-  after-append (p ∷ ps) qs s = after-append ps qs (step s p)
-
--- a list of pels: each is 0 or 1
-abbrev pub AllPels : List ℕ → Type 0
-AllPels [] = Unit {0}
-AllPels (p ∷ ps) = (p ≤ 1) × AllPels ps

@@ -1,56 +1,15 @@
--- A whole run of the code: each call with what its contract allows, on the desk that the call before it left. Assumes nothing.
-use mathlib.Core.Path.{_≡_, refl, sym, ap, ap₂, _∙_}
+-- A whole run of the code: each call with what its contract allows, on the desk that the call before it left. Assumes
+-- nothing.
 use mathlib.Core.List.{List, [], _∷_}
 use Prim.Native.Nat.{ℕ}
-use Rattle.turns.specs.Service.{Entry, calls}
-use Rattle.turns.specs.Serial.{serial}
-use Rattle.unique.specs.Reading.{reading}
-use Rattle.desk.specs.declared.Key.{Key}
+use Rattle.turns.specs.Service.{Entry}
 use Rattle.desk.specs.Desk.{Desk, Outcome}
-use Rattle.desk.specs.Places.{emptyDesk}
 use Rattle.desk.specs.Calls.{Call}
-use Rattle.desk.specs.Standing.{learnedTable}
 use Rattle.desk.specs.Allowed.{Allowed}
-use Rattle.serial.specs.Run.{Step, calling, stepOf, entryOf, step, run, after}
-use Rattle.serial.specs.Demand3.{Demand3, left}
-use Rattle.demands.specs.Certain.{as-run}
-use Rattle.demands.specs.AnyOrder.{any-order}
+use Rattle.serial.specs.Run.{calling, stepOf, entryOf}
 
 -- a history: calls in a row, each with an outcome that its contract allows, on the desk that the call before it left
 pub data Ran : Desk → List (Entry calling) → Desk → Type 0 where
   begun : (d : Desk) → Ran d [] d
   more : (d : Desk) (c : Call) (r : Outcome) (lent : List ℕ) (es : List (Entry calling)) (d′ : Desk) → Allowed d c r lent → Ran (r .desk) es d′
       → Ran d (entryOf c (stepOf r lent) ∷ es) d′
-
-pub record AsRun (d : Desk) (es : List (Entry calling)) (d′ : Desk) : Type 0 where
-  pub answers : es ≡ run reading d (calls calling es)
-  pub ends : d′ ≡ after reading d (calls calling es)
-
-pub ran : (d : Desk) (es : List (Entry calling)) (d′ : Desk) → Ran d es d′ → AsRun d es d′
-unfolding run after calls
-ran _ _ _ (begun d) = record { answers = refl; ends = refl }
-ran _ _ _ (more d c r lent es d′ p q) =
-    let e : stepOf r lent ≡ step reading d c = as-run d c r lent p in
-    let i : AsRun (r .desk) es d′ = ran (r .desk) es d′ q in
-    record {
-      answers = ap₂ (λ (s : Step) (l : List (Entry calling)). entryOf c s ∷ l) e
-          (i .answers ∙ ap (λ (s : Step). run reading (s .desk) (calls calling es)) e);
-      ends = i .ends ∙ ap (λ (s : Step). after reading (s .desk) (calls calling es)) e;
-    }
-
--- Demand 3 of histories: whatever was answered from an empty desk, serving what is left on a new one answers the same
--- and ends with the same tables
-pub any-history : (es fs : List (Entry calling)) (d d′ : Desk) → Ran emptyDesk es d → Ran emptyDesk fs d′
-    → calls calling fs ≡ calls calling (serial calling es)
-    → (fs ≡ serial calling es) × ((k : Key) → learnedTable d′ k ≡ learnedTable d k)
-unfolding left
-any-history es fs d d′ p q c =
-    let a : AsRun emptyDesk es d = ran emptyDesk es d p in
-    let b : AsRun emptyDesk fs d′ = ran emptyDesk fs d′ q in
-    let t : Demand3 reading (calls calling es) = any-order (calls calling es) in
-    let s : calls calling fs ≡ calls calling (left reading (calls calling es)) = c
-    ∙ ap (λ (l : List (Entry calling)). calls calling (serial calling l)) (a .answers) in (
-      b .answers ∙ ap (run reading emptyDesk) s ∙ t .answers ∙ ap (serial calling) (sym (a .answers)),
-      (λ k. ap (λ (z : Desk). learnedTable z k) (b .ends ∙ ap (after reading emptyDesk) s) ∙ t .tables k ∙ ap (λ (z : Desk). learnedTable z k)
-          (sym (a .ends))),
-    )

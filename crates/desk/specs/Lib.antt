@@ -1,7 +1,6 @@
 pub mod Desk
 pub mod Places
 pub mod Lawful
-pub mod OpenPages
 pub mod Refusals
 pub mod Calls
 pub mod Standing
@@ -9,7 +8,4 @@ pub mod Tests
 pub mod Effects
 pub mod Changes
 pub mod Allowed
-pub mod Once
-pub mod Passed
-pub mod Kinds
 pub mod Asked

@@ -1,7 +1,6 @@
 -- Document 01: the tests of each call, in the order in which they are tested, each with its number. Assumes nothing.
-use mathlib.Core.Path.{_≡_, refl}
 use Prim.Native.Nat.{ℕ, _*_}
-use mathlib.Core.Bool.{true, not, _&&_}
+use mathlib.Core.Bool.{not, _&&_}
 use mathlib.Core.Option.{Option}
 use mathlib.Core.List.{List, [], _∷_}
 use lib.Dec.{eqb, ltb}
@@ -13,7 +12,7 @@ use Rattle.band.specs.Band.{Written, written, hasRoom, Finder}
 use Rattle.desk.specs.declared.Key.{Key}
 use Rattle.desk.specs.Desk.{Page}
 use Rattle.desk.specs.Lawful.{within, lawfulKey}
-use Rattle.desk.specs.Refusals.{Row, row, order, from, inOrder}
+use Rattle.desk.specs.Refusals.{Row, row}
 use Rattle.desk.specs.Calls.{Call, opens, writes, reads, closes, abandons, drops, looks}
 use Rattle.desk.specs.Standing.{Stand, pageOf}
 
@@ -68,14 +67,3 @@ module _ (finds : Finder) where
   tests (abandons k) s = unlawful s ∷ unknown k ∷ row 2 (not (given (s .page))) ∷ []
   tests (drops k) s = unlawful s ∷ unknown k ∷ row 3 (given (s .page)) ∷ row 11 (not (given (s .learned))) ∷ []
   tests (looks k out) s = unlawful s ∷ unknown k ∷ row 11 (not (given (s .learned))) ∷ row 9 (ltb (length out) contexts) ∷ []
-
-  -- each call's tests stand in the table's order
-  pub in-order : (c : Call) (s : Stand) → inOrder (tests c s) order ≡ true
-  unfolding tests inOrder from
-  in-order (opens ask) s = refl
-  in-order (writes ask pels out) s = refl
-  in-order (reads ask code out) s = refl
-  in-order (closes k) s = refl
-  in-order (abandons k) s = refl
-  in-order (drops k) s = refl
-  in-order (looks k out) s = refl

@@ -1,3 +1,2 @@
 pub mod Estimate
-pub mod Laws
 pub mod Source

@@ -1,9 +1,2 @@
 pub mod Value
-pub mod Agree
-pub mod End
-pub mod Back
-pub mod Ahead
-pub mod Going
-pub mod Code
 pub mod Sight
-pub mod Reader

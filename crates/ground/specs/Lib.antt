@@ -1,4 +1,1 @@
-pub mod Tests
-pub mod Bools
 pub mod Options
-pub mod Tables

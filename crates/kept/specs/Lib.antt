@@ -1,11 +1,1 @@
-pub mod Lists
-pub mod View
-pub mod Sound
-pub mod Bands
-pub mod Cells
-pub mod Changes
-pub mod Stored
-pub mod Fair
-pub mod Room
-pub mod Law
 pub mod Kept

@@ -3,6 +3,4 @@ pub mod Unit
 pub mod Fit
 pub mod Loops
 pub mod Lift
-pub mod OnePel
 pub mod Runs
-pub mod Ending

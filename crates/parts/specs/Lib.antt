@@ -1,5 +1,3 @@
-pub mod Beside
-pub mod Emptied
 pub mod Finding
 pub mod Lines
 pub mod Parts

@@ -1,3 +1,1 @@
 pub mod Stands
-pub mod Refusing
-pub mod Served

@@ -1,13 +1,9 @@
 -- The refusals that calls share, as one function tests them. Assumes nothing.
 use Prim.Native.Nat.{ℕ, _<_}
-use mathlib.Core.Path.{_≡_, refl, ap}
-use mathlib.Core.Logic.{_≢_}
-use native.Mathlib.Omega.{arith}
-use mathlib.Core.Bool.{Bool, true, false, cond}
+use mathlib.Core.Bool.{Bool, cond}
 use mathlib.Core.List.{List}
 use lib.Dec.{eqb}
 use lib.ListN.{getD}
-use borrow.Author.Tests.{eq-eqb, ne-eqb}
 use Rattle.desk.specs.declared.Found.{Found}
 use Rattle.desk.specs.declared.Found.the-variants.{At, Nothing}
 use Rattle.parts.specs.declared.PageLine.{PageLine}
@@ -27,54 +23,10 @@ onPage Nothing = Refused 2
 unfoldable pub standing : Bool → Bool → Bool → Found → Stands
 standing good known sized found = cond good (cond known (cond sized (onPage found) (Refused 6)) (Refused 1)) (Refused 12)
 
-pub on-found : (f : Found) (i : ℕ) → f ≡ At i → On i ≡ onPage f
-unfolding onPage
-on-found f i e = rw e
-
-pub on-none : (f : Found) → f ≡ Nothing → Refused 2 ≡ onPage f
-unfolding onPage
-on-none f e = rw e
-
--- ---- as it is tested
-module _ (good known sized : Bool) (found : Found) where
-  pub stopped : (n : ℕ) → n ≡ early good known sized → n ≢ 0 → Refused n ≡ standing good known sized found
-  unfolding standing
-  stopped n e h = go good known sized e
-    where
-      go : (g k s : Bool) → n ≡ early g k s → Refused n ≡ standing g k s found
-      go true true true e = absurd (h e)
-      go true true false e = ap Refused e
-      go true false s e = ap Refused e
-      go false k s e = ap Refused e
-
-  pub went-on : early good known sized ≡ 0 → onPage found ≡ standing good known sized found
-  unfolding standing
-  went-on e = go good known sized e
-    where
-      go : (g k s : Bool) → early g k s ≡ 0 → onPage found ≡ standing g k s found
-      go true true true e = refl
-      go true true false e = absurd (omega arith)
-      go true false s e = absurd (omega arith)
-      go false k s e = absurd (omega arith)
-
 -- 7, where the page is open in the other direction
 unfoldable pub standingTo : List PageLine → ℕ → Stands → Stands
 standingTo pages state (On i) = cond (eqb (getD pages i noPageLine .state) state) (On i) (Refused 7)
 standingTo pages state (Refused n) = Refused n
-
-module _ (pages : List PageLine) (state : ℕ) (s : Stands) where
-  pub away-still : (n : ℕ) → s ≡ Refused n → s ≡ standingTo pages state s
-  unfolding standingTo
-  away-still n e = rw e
-
-  module _ (i : ℕ) (e : s ≡ On i) where
-    pub other-way : getD pages i noPageLine .state ≢ state → Refused 7 ≡ standingTo pages state s
-    unfolding standingTo
-    other-way h = rw (e, ne-eqb (getD pages i noPageLine .state) state h)
-
-    pub right-way : getD pages i noPageLine .state ≡ state → On i ≡ standingTo pages state s
-    unfolding standingTo
-    right-way h = rw (e, eq-eqb (getD pages i noPageLine .state) state h)
 
 abbrev pub numberOf : Stands → ℕ
 numberOf (On i) = 0

@@ -1,5 +1,2 @@
 pub mod Run
-pub mod Office
-pub mod Bridge
-pub mod Beside
 pub mod Demand3

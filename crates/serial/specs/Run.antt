@@ -10,7 +10,7 @@ use Rattle.desk.specs.declared.Key.{Key}
 use Rattle.desk.specs.Desk.{Desk, Outcome}
 use Rattle.desk.specs.declared.Answer.{Answer}
 use Rattle.desk.specs.Places.{sameKey}
-use Rattle.desk.specs.OpenPages.{key-self, key-only}
+use Rattle.desk.proofs.OpenPages.{key-self, key-only}
 use Rattle.desk.specs.Calls.{Call, keyOf, kindOf}
 use Rattle.desk.specs.Allowed.{outcome, lent}
 

@@ -1,6 +1,5 @@
 pub mod Pels
 pub mod Window
 pub mod Packing
-pub mod Padding
 pub mod Words
 pub mod White

@@ -7,8 +7,8 @@ use Rattle.limits.specs.Limits.{maxPages}
 use Rattle.parts.specs.declared.Parts.{Parts}
 use Rattle.parts.specs.Parts.{deskOf, partsOf}
 use Rattle.desk.specs.Calls.{abandons}
-use Rattle.refusals.specs.Refusing.{Stood, away, stood, at-end, turns-away, nothing-lent, stands-as}
-use Rattle.closing.specs.Leaving.{abandon-number, abandon-done}
+use Rattle.refusals.proofs.Refusing.{Stood, away, stood, at-end, turns-away, nothing-lent, stands-as}
+use Rattle.closing.proofs.Leaving.{abandon-number, abandon-done}
 use borrow.Author.Needs.{needs}
 use Rattle.closing.proofs.abandon.Statement.{statement}
 use Rattle.closing.proofs.abandon.Tie as tie

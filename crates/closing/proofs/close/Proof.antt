@@ -9,8 +9,8 @@ use Rattle.parts.specs.declared.Parts.{Parts}
 use Rattle.parts.specs.Parts.{deskOf, partsOf}
 use Rattle.desk.specs.Calls.{closes}
 use Rattle.desk.specs.Changes.{learnedPlace}
-use Rattle.refusals.specs.Refusing.{Stood, away, stood, at-end, turns-away, nothing-lent, stands-as}
-use Rattle.closing.specs.Leaving.{close-number, close-done}
+use Rattle.refusals.proofs.Refusing.{Stood, away, stood, at-end, turns-away, nothing-lent, stands-as}
+use Rattle.closing.proofs.Leaving.{close-number, close-done}
 use borrow.Author.Needs.{needs}
 use Rattle.closing.proofs.close.Statement.{statement}
 use Rattle.closing.proofs.close.Tie as tie

@@ -1,7 +1,7 @@
 -- By whether the class has a table. Assumes nothing.
 use mathlib.Core.Path.{sym, ap, _∙_}
 use Rattle.desk.specs.Places.{isFound}
-use Rattle.closing.specs.Leaving.{none-reserved, one-reserved}
+use Rattle.closing.proofs.Leaving.{none-reserved, one-reserved}
 use borrow.Author.Needs.{needs}
 use Rattle.closing.proofs.reserved_place.Statement.{statement}
 use Rattle.closing.proofs.reserved_place.Tie as tie

@@ -5,7 +5,7 @@ use native.Mathlib.Omega.{arith}
 use mathlib.Core.Bool.{Bool}
 use lib.Dec.{eqb, eqb→eq}
 use borrow.Author.Needs.{needs}
-use Rattle.ground.specs.Tables.{at-each}
+use Rattle.ground.proofs.Tables.{at-each}
 use Rattle.estimate.specs.Estimate.{rows, fall}
 use Rattle.estimate.proofs.fall_of.Statement.{statement}
 use Rattle.estimate.proofs.fall_of.Tie as tie

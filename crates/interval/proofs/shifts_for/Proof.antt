@@ -1,7 +1,7 @@
 -- The leading zeros of a width tell how many doublings it wants. Assumes nothing.
 use native.Mathlib.Omega.{arith}
-use Rattle.interval.specs.Growing.{doublings-few}
-use Rattle.interval.specs.Leading.{leading-doublings}
+use Rattle.interval.proofs.Growing.{doublings-few}
+use Rattle.interval.proofs.Leading.{leading-doublings}
 use Rattle.interval.proofs.shifts_for.Statement.{statement}
 use Rattle.interval.proofs.shifts_for.Tie as tie
 

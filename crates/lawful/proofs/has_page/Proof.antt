@@ -1,7 +1,7 @@
 -- A search finds one where there is one. Assumes nothing.
 use mathlib.Core.Path.{ap, _∙_}
 use Rattle.desk.specs.Places.{isFound}
-use Rattle.desk.specs.OpenPages.{found-any}
+use Rattle.desk.proofs.OpenPages.{found-any}
 use borrow.Author.Needs.{needs}
 use Rattle.lawful.proofs.has_page.Statement.{statement}
 use Rattle.lawful.proofs.has_page.Tie as tie

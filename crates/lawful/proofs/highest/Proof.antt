@@ -3,7 +3,7 @@ use mathlib.Core.Path.{refl}
 use Prim.Native.Nat.{_-_}
 use native.Mathlib.Omega.{arith}
 use lib.ListN.{length}
-use Rattle.lawful.specs.Highest.{Highest, highest-next, highest-end}
+use Rattle.lawful.proofs.HighestByte.{Highest, highest-next, highest-end}
 use borrow.Author.Needs.{needs}
 use Rattle.lawful.proofs.highest.Statement.{statement}
 use Rattle.lawful.proofs.highest.Tie as tie

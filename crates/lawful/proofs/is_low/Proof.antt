@@ -2,7 +2,7 @@
 use mathlib.Core.Path.{ap, _∙_}
 use Prim.Native.Nat.{ℕ}
 use lib.Dec.{leb}
-use Rattle.lawful.specs.Highest.{all-low}
+use Rattle.lawful.proofs.HighestByte.{all-low}
 use borrow.Author.Needs.{needs}
 use Rattle.lawful.proofs.is_low.Statement.{statement}
 use Rattle.lawful.proofs.is_low.Tie as tie

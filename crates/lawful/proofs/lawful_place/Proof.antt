@@ -5,7 +5,7 @@ use mathlib.Core.Bool.{not}
 use borrow.Author.Tests.{ne-eqb}
 use Rattle.desk.specs.Places.{sameKey}
 use Rattle.lawful.specs.Highest.{low}
-use Rattle.lawful.specs.Each.{free-made, used-made}
+use Rattle.lawful.proofs.Each.{free-made, used-made}
 use borrow.Author.Needs.{needs}
 use Rattle.lawful.proofs.lawful_place.Statement.{statement}
 use Rattle.lawful.proofs.lawful_place.Tie as tie

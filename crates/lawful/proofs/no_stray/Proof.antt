@@ -1,5 +1,5 @@
 -- First the padding bits, then the bytes after the row. Assumes nothing.
-use Rattle.lawful.specs.Each.{stray-made}
+use Rattle.lawful.proofs.Each.{stray-made}
 use borrow.Author.Needs.{needs}
 use Rattle.lawful.proofs.no_stray.Statement.{statement}
 use Rattle.lawful.proofs.no_stray.Tie as tie

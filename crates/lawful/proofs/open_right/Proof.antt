@@ -4,8 +4,8 @@ use native.Mathlib.Omega.{arith}
 use borrow.Author.Tests.{not-true, not-false}
 use Rattle.limits.specs.Limits.{maxWidth}
 use Rattle.parts.specs.Parts.{asPage}
-use Rattle.desk.specs.OpenPages.{within-both}
-use Rattle.lawful.specs.Each.{open-stops, open-made}
+use Rattle.desk.proofs.OpenPages.{within-both}
+use Rattle.lawful.proofs.Each.{open-stops, open-made}
 use borrow.Author.Needs.{needs}
 use Rattle.lawful.proofs.open_right.Statement.{statement}
 use Rattle.lawful.proofs.open_right.Tie as tie

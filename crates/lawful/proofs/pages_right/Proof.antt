@@ -7,9 +7,11 @@ use borrow.Author.Tests.{not-true, not-false}
 use Rattle.limits.specs.Limits.{maxPages}
 use Rattle.parts.specs.Parts.{pagesOf}
 use Rattle.desk.specs.Places.{noPage}
-use Rattle.parts.specs.Lines.{length-pages}
-use Rattle.lawful.specs.Loops.{each, Left, left-starts, each-failed, each-passed, each-end}
-use Rattle.lawful.specs.Each.{pageRight, page-right, both-made}
+use Rattle.parts.proofs.Lines.{length-pages}
+use Rattle.lawful.specs.Loops.{each}
+use Rattle.lawful.proofs.Loops.{Left, left-starts, each-failed, each-passed, each-end}
+use Rattle.lawful.specs.Each.{pageRight}
+use Rattle.lawful.proofs.Each.{page-right, both-made}
 use borrow.Author.Needs.{needs}
 use Rattle.lawful.proofs.pages_right.Statement.{statement}
 use Rattle.lawful.proofs.pages_right.Tie as tie

@@ -7,9 +7,11 @@ use borrow.Author.Tests.{not-true, not-false}
 use Rattle.limits.specs.Limits.{maxPlaces}
 use Rattle.parts.specs.Parts.{asPlace, placesOf}
 use Rattle.desk.specs.Places.{noPlace}
-use Rattle.parts.specs.Beside.{length-beside}
-use Rattle.lawful.specs.Loops.{each, Left, left-starts, each-failed, each-passed, each-end}
-use Rattle.lawful.specs.Each.{placeRight, place-right, both-made}
+use Rattle.parts.proofs.Beside.{length-beside}
+use Rattle.lawful.specs.Loops.{each}
+use Rattle.lawful.proofs.Loops.{Left, left-starts, each-failed, each-passed, each-end}
+use Rattle.lawful.specs.Each.{placeRight}
+use Rattle.lawful.proofs.Each.{place-right, both-made}
 use borrow.Author.Needs.{needs}
 use Rattle.lawful.proofs.places_right.Statement.{statement}
 use Rattle.lawful.proofs.places_right.Tie as tie

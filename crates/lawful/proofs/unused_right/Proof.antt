@@ -2,7 +2,7 @@
 use mathlib.Core.Path.{ap, _∙_}
 use Rattle.parts.specs.Parts.{asPage}
 use Rattle.desk.specs.Places.{sameKey}
-use Rattle.lawful.specs.Each.{unused-made}
+use Rattle.lawful.proofs.Each.{unused-made}
 use borrow.Author.Needs.{needs}
 use Rattle.lawful.proofs.unused_right.Statement.{statement}
 use Rattle.lawful.proofs.unused_right.Tie as tie

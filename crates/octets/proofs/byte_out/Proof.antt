@@ -2,7 +2,7 @@
 use mathlib.Core.Path.{refl}
 use native.Mathlib.Omega.{arith}
 use borrow.Author.Needs.{needs}
-use Rattle.octets.specs.Lift.{out-ff, out-to-ff, out-plain, one-carry, small-ff, small-to-ff, small-plain}
+use Rattle.octets.proofs.Lift.{out-ff, out-to-ff, out-plain, one-carry, small-ff, small-to-ff, small-plain}
 use Rattle.octets.proofs.byte_out.Statement.{statement}
 use Rattle.octets.proofs.byte_out.Tie as tie
 

@@ -3,7 +3,8 @@ use mathlib.Core.Path.{_≡_, refl}
 use Prim.Native.Nat.{ℕ, _-_, _*_, _^_}
 use native.Mathlib.Omega.{arith}
 use borrow.Author.Needs.{needs}
-use Rattle.octets.specs.Lift.{Out, scale-fits, short-next, settle-one, settle-two}
+use Rattle.octets.specs.Lift.{Out}
+use Rattle.octets.proofs.Lift.{scale-fits, short-next, settle-one, settle-two}
 use Rattle.octets.proofs.settle.Statement.{statement}
 use Rattle.octets.proofs.settle.Tie as tie
 

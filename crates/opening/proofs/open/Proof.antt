@@ -13,13 +13,13 @@ use Rattle.desk.specs.declared.Found.the-variants.{At}
 use Rattle.parts.specs.declared.Sought.the-variants.{Used, Learned, Free}
 use Rattle.parts.specs.Parts.{asPage, deskOf, partsOf}
 use Rattle.desk.specs.Places.{isFound, pageFound, freePageFound}
-use Rattle.parts.specs.Lines.{find-pages, find-places}
-use Rattle.parts.specs.Puts.{page-as}
+use Rattle.parts.proofs.Lines.{find-pages, find-places}
+use Rattle.parts.proofs.Puts.{page-as}
 use Rattle.desk.specs.Lawful.{within, lawfulKey, lawful}
 use Rattle.desk.specs.Calls.{opens}
 use Rattle.refusals.specs.Stands.{early}
-use Rattle.refusals.specs.Refusing.{refuses, nothing-lent}
-use Rattle.opening.specs.Opening.{open-early, open-opened, open-pages, open-taught, open-left}
+use Rattle.refusals.proofs.Refusing.{refuses, nothing-lent}
+use Rattle.opening.proofs.Opening.{open-early, open-opened, open-pages, open-taught, open-left}
 use borrow.Author.Needs.{needs}
 use Rattle.opening.proofs.open.Statement.{statement}
 use Rattle.opening.proofs.open.Tie as tie

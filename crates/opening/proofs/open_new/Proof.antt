@@ -8,10 +8,10 @@ use Rattle.parts.specs.declared.Reply.{Reply}
 use Rattle.parts.specs.declared.Sought.the-variants.{Free}
 use Rattle.parts.specs.Parts.{asPage, partsOf}
 use Rattle.desk.specs.Places.{zeroTable, isFound}
-use Rattle.parts.specs.Lines.{find-places}
-use Rattle.parts.specs.Puts.{page-as, page-whole, place-whole, whole-as}
+use Rattle.parts.proofs.Lines.{find-places}
+use Rattle.parts.proofs.Puts.{page-as, page-whole, place-whole, whole-as}
 use Rattle.desk.specs.Changes.{reservedPlace}
-use Rattle.opening.specs.Opening.{new-refused, new-done}
+use Rattle.opening.proofs.Opening.{new-refused, new-done}
 use borrow.Author.Needs.{needs}
 use Rattle.opening.proofs.open_new.Statement.{statement}
 use Rattle.opening.proofs.open_new.Tie as tie

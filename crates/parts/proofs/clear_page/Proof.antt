@@ -7,7 +7,7 @@ use Rattle.band.specs.Band.{white}
 use Rattle.desk.specs.declared.Key.{Key}
 use Rattle.parts.specs.Parts.{asPage}
 use Rattle.desk.specs.Places.{unusedPage}
-use Rattle.parts.specs.Puts.{page-as}
+use Rattle.parts.proofs.Puts.{page-as}
 use borrow.Author.Needs.{needs}
 use Rattle.parts.proofs.clear_page.Statement.{statement}
 use Rattle.parts.proofs.clear_page.Tie as tie

@@ -4,7 +4,7 @@ use Rattle.estimate.specs.declared.Table.{Table}
 use Rattle.desk.specs.declared.Key.{Key}
 use Rattle.parts.specs.Parts.{asPlace}
 use Rattle.desk.specs.Places.{freePlace}
-use Rattle.parts.specs.Puts.{place-as}
+use Rattle.parts.proofs.Puts.{place-as}
 use borrow.Author.Needs.{needs}
 use Rattle.parts.proofs.clear_place.Statement.{statement}
 use Rattle.parts.proofs.clear_place.Tie as tie

@@ -1,5 +1,5 @@
 -- What is stored is the parts of an empty desk. Assumes nothing.
-use Rattle.parts.specs.Emptied.{reads-empty, empty-whole}
+use Rattle.parts.proofs.EmptyDesk.{reads-empty, empty-whole}
 use borrow.Author.Needs.{needs}
 use Rattle.parts.proofs.emptied.Statement.{statement}
 use Rattle.parts.proofs.emptied.Tie as tie

@@ -5,7 +5,8 @@ use native.Mathlib.Omega.{arith}
 use borrow.Author.Needs.{needs}
 use Rattle.limits.specs.Limits.{maxPages}
 use Rattle.parts.specs.Lines.{noPageLine}
-use Rattle.parts.specs.Finding.{pageSought, Searching, search-starts, found-here, found-later, found-nowhere}
+use Rattle.parts.specs.Finding.{pageSought}
+use Rattle.parts.proofs.Finding.{Searching, search-starts, found-here, found-later, found-nowhere}
 use Rattle.parts.proofs.find_page.Statement.{statement}
 use Rattle.parts.proofs.find_page.Tie as tie
 

@@ -5,7 +5,8 @@ use native.Mathlib.Omega.{arith}
 use borrow.Author.Needs.{needs}
 use Rattle.limits.specs.Limits.{maxPlaces}
 use Rattle.parts.specs.Lines.{noPlaceLine}
-use Rattle.parts.specs.Finding.{placeSought, Searching, search-starts, found-here, found-later, found-nowhere}
+use Rattle.parts.specs.Finding.{placeSought}
+use Rattle.parts.proofs.Finding.{Searching, search-starts, found-here, found-later, found-nowhere}
 use Rattle.parts.proofs.find_place.Statement.{statement}
 use Rattle.parts.proofs.find_place.Tie as tie
 

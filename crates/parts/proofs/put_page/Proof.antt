@@ -1,5 +1,5 @@
 -- What is put among the parts at i is put in the desk at i. Assumes nothing.
-use Rattle.parts.specs.Puts.{page-put}
+use Rattle.parts.proofs.Puts.{page-put}
 use borrow.Author.Needs.{needs}
 use Rattle.parts.proofs.put_page.Statement.{statement}
 use Rattle.parts.proofs.put_page.Tie as tie

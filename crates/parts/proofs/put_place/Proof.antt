@@ -3,7 +3,7 @@ use Prim.Native.Nat.{_<_}
 use native.Mathlib.Omega.{arith}
 use Rattle.limits.specs.Limits.{maxPlaces}
 use Rattle.parts.specs.Parts.{asPlace}
-use Rattle.parts.specs.Puts.{place-put, no-place-put}
+use Rattle.parts.proofs.Puts.{place-put, no-place-put}
 use borrow.Author.Needs.{needs}
 use Rattle.parts.proofs.put_place.Statement.{statement}
 use Rattle.parts.proofs.put_place.Tie as tie

@@ -9,7 +9,7 @@ use lib.ListN.{length, take}
 use lib.Seq.{length-take-le}
 use Rattle.limits.specs.Limits.{maxRows}
 use Rattle.reader.specs.ReadRow.{matches}
-use Rattle.reader.specs.Ends.{read-done, read-damaged, read-nothing, fits-when, fits-not, as-compared, counted}
+use Rattle.reader.proofs.Ends.{read-done, read-damaged, read-nothing, fits-when, fits-not, as-compared, counted}
 use Rattle.reader.proofs.read_band.Statement.{statement}
 use Rattle.reader.proofs.read_band.Tie as tie
 

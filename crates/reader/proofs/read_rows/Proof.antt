@@ -7,7 +7,8 @@ use native.Mathlib.Omega.{arith}
 use borrow.Author.Needs.{needs}
 use lib.ListN.{length}
 use Rattle.limits.specs.Limits.{maxRows, lastBytes}
-use Rattle.reader.specs.Reads.{BandRead, reads-start, reads-again, next-room}
+use Rattle.reader.specs.Reads.{BandRead}
+use Rattle.reader.proofs.RowsRead.{reads-start, reads-again, next-room}
 use Rattle.reader.proofs.read_rows.Statement.{statement}
 use Rattle.reader.proofs.read_rows.Tie as tie
 

@@ -9,21 +9,21 @@ use Rattle.limits.specs.Limits.{maxPages, maxRows}
 use Rattle.parts.specs.declared.Parts.{Parts}
 use Rattle.parts.specs.Parts.{asPage, deskOf, partsOf}
 use Rattle.parts.specs.Lines.{noPageLine}
-use Rattle.parts.specs.Puts.{page-as}
+use Rattle.parts.proofs.Puts.{page-as}
 use Rattle.desk.specs.Lawful.{within}
-use Rattle.desk.specs.OpenPages.{OpenPage, within-both}
+use Rattle.desk.proofs.OpenPages.{OpenPage, within-both}
 use Rattle.desk.specs.Refusals.{lentAfter}
 use Rattle.desk.specs.Calls.{reads}
 use Rattle.desk.specs.Standing.{stand, pageOf}
 use Rattle.desk.specs.Tests.{bandOf}
 use Rattle.parts.specs.Replies.{doneBy}
-use Rattle.refusals.specs.Refusing.{StoodTo, turned-to, standing-to, turns-away, refuses, keeps, clears}
-use Rattle.refusals.specs.Served.{pageIn, page-is, open-in, band-done}
+use Rattle.refusals.proofs.Refusing.{StoodTo, turned-to, standing-to, turns-away, refuses, keeps, clears}
+use Rattle.refusals.proofs.Served.{pageIn, page-is, open-in, band-done}
 use lib.Dec.{leb}
 use Rattle.limits.specs.Limits.{maxCode}
-use Rattle.ground.specs.Bools.{both}
+use Rattle.ground.proofs.Bools.{both}
 use Rattle.reader.specs.declared.Read.{Read}
-use Rattle.reading.specs.Reads.{sizes, read-number, read-room, read-full, read-damaged, damaged-out, band, read-end, read-gave, read-lent, read-effect}
+use Rattle.reading.proofs.ReadAnswers.{sizes, read-number, read-room, read-full, read-damaged, damaged-out, band, read-end, read-gave, read-lent, read-effect}
 use borrow.Author.Needs.{needs}
 use Rattle.reading.proofs.read.Statement.{statement}
 use Rattle.reading.proofs.read.Tie as tie

@@ -1,7 +1,7 @@
 -- The first three tests, then the search. Assumes nothing.
 use mathlib.Core.Path.{sym, _∙_}
 use Rattle.desk.specs.Lawful.{lawfulKey}
-use Rattle.refusals.specs.Stands.{on-found, on-none, stopped, went-on}
+use Rattle.refusals.proofs.StandingOn.{on-found, on-none, stopped, went-on}
 use borrow.Author.Needs.{needs}
 use Rattle.refusals.proofs.page_for.Statement.{statement}
 use Rattle.refusals.proofs.page_for.Tie as tie

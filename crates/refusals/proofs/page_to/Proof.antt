@@ -4,7 +4,8 @@ use Prim.Native.Nat.{_<_}
 use native.Mathlib.Omega.{arith}
 use Rattle.limits.specs.Limits.{maxPages}
 use Rattle.desk.specs.Places.{stateFor}
-use Rattle.refusals.specs.Stands.{standingTo, away-still, other-way, right-way}
+use Rattle.refusals.specs.Stands.{standingTo}
+use Rattle.refusals.proofs.StandingOn.{away-still, other-way, right-way}
 use borrow.Author.Needs.{needs}
 use Rattle.refusals.proofs.page_to.Statement.{statement}
 use Rattle.refusals.proofs.page_to.Tie as tie

@@ -4,7 +4,7 @@ use Prim.Native.Nat.{_+_, _%_}
 use native.Mathlib.Omega.{arith}
 use borrow.Author.Needs.{needs}
 use borrow.Author.Tests.{eqb-true}
-use Rattle.ground.specs.Bools.{no-way}
+use Rattle.ground.proofs.Bools.{no-way}
 use Rattle.row.proofs.starts_run.Statement.{statement}
 use Rattle.row.proofs.starts_run.Tie as tie
 

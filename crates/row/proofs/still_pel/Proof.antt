@@ -3,7 +3,7 @@ use mathlib.Core.Path.{_∙_, ap}
 use Prim.Native.Nat.{ℕ}
 use native.Mathlib.Omega.{arith}
 use Rattle.octets.specs.declared.Coder.{Coder}
-use Rattle.octets.specs.OnePel.{low-fits}
+use Rattle.octets.proofs.OnePel.{low-fits}
 use Rattle.octets.specs.Runs.{stillBy}
 use mathlib.Core.Bool.{false}
 use Rattle.row.proofs.still_pel.Statement.{statement}

@@ -1,6 +1,6 @@
 -- The bits that a byte brings. Assumes nothing.
 use mathlib.Core.Path.{sym}
-use Rattle.octets.specs.Fit.{bits-ff, bits-else}
+use Rattle.octets.proofs.Fit.{bits-ff, bits-else}
 use Rattle.sight.proofs.bits_after.Statement.{statement}
 use Rattle.sight.proofs.bits_after.Tie as tie
 

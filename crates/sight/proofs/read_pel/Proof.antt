@@ -4,13 +4,16 @@ use Prim.Native.Nat.{ℕ, _-_}
 use native.Mathlib.Omega.{arith}
 use mathlib.Core.Bool.{true, false}
 use Rattle.estimate.specs.Estimate.{rowOf}
-use Rattle.estimate.specs.Laws.{row-sized}
-use Rattle.interval.specs.Growing.{doublings-few}
-use Rattle.exact.specs.Reader.{decide-true, decide-false}
-use Rattle.row.specs.Rows.{movedPel, pelled-moved}
+use Rattle.estimate.proofs.Laws.{row-sized}
+use Rattle.interval.proofs.Growing.{doublings-few}
+use Rattle.exact.proofs.Reader.{decide-true, decide-false}
+use Rattle.row.specs.Rows.{movedPel}
+use Rattle.row.proofs.Rows.{pelled-moved}
 use Rattle.sight.specs.declared.View.{View}
-use Rattle.sight.specs.Views.{sightOf, told-moved, part-small}
-use Rattle.sight.specs.Still.{viewBy, told-still}
+use Rattle.sight.specs.Views.{sightOf}
+use Rattle.sight.proofs.Views.{told-moved, part-small}
+use Rattle.sight.specs.Still.{viewBy}
+use Rattle.sight.proofs.Still.{told-still}
 use borrow.Author.Needs.{needs}
 use Rattle.sight.proofs.read_pel.Statement.{statement}
 use Rattle.sight.proofs.read_pel.Tie as tie

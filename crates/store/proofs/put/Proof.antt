@@ -2,7 +2,7 @@
 use mathlib.Core.Path.{refl, sym, _∙_}
 use native.Mathlib.Omega.{arith}
 use lib.Seq.{set-out}
-use Rattle.store.specs.Store.{store-none, store-some}
+use Rattle.store.proofs.Store.{store-none, store-some}
 use borrow.Author.Needs.{needs}
 use Rattle.store.proofs.put.Statement.{statement}
 use Rattle.store.proofs.put.Tie as tie

@@ -5,7 +5,8 @@ use native.Mathlib.Numerals.{add-one}
 use native.Mathlib.Omega.{arith}
 use borrow.Author.Needs.{needs}
 use lib.ListN.{length, take}
-use Rattle.store.specs.Store.{stores, stores-next, length-stores}
+use Rattle.store.specs.Store.{stores}
+use Rattle.store.proofs.Store.{stores-next, length-stores}
 use Rattle.store.proofs.put_last.Statement.{statement}
 use Rattle.store.proofs.put_last.Tie as tie
 

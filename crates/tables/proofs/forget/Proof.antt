@@ -8,12 +8,12 @@ use Rattle.parts.specs.declared.Parts.{Parts}
 use Rattle.parts.specs.declared.Sought.the-variants.{Used, Learned}
 use Rattle.parts.specs.Parts.{deskOf, partsOf}
 use Rattle.desk.specs.Places.{isFound, pageFound, tableFound}
-use Rattle.parts.specs.Lines.{find-pages, find-places}
+use Rattle.parts.proofs.Lines.{find-pages, find-places}
 use Rattle.desk.specs.Lawful.{lawfulKey, lawful}
 use Rattle.desk.specs.Calls.{drops}
 use Rattle.refusals.specs.Stands.{early}
-use Rattle.refusals.specs.Refusing.{refuses, nothing-lent}
-use Rattle.tables.specs.Tables.{drop-early, drop-opened, drop-untaught, drop-end, drop-done}
+use Rattle.refusals.proofs.Refusing.{refuses, nothing-lent}
+use Rattle.tables.proofs.Tables.{drop-early, drop-opened, drop-untaught, drop-end, drop-done}
 use borrow.Author.Needs.{needs}
 use Rattle.tables.proofs.forget.Statement.{statement}
 use Rattle.tables.proofs.forget.Tie as tie

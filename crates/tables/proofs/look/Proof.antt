@@ -9,12 +9,12 @@ use Rattle.desk.specs.declared.Found.the-variants.{At}
 use Rattle.parts.specs.declared.Sought.the-variants.{Learned}
 use Rattle.parts.specs.Parts.{deskOf, partsOf}
 use Rattle.desk.specs.Places.{tableFound}
-use Rattle.parts.specs.Lines.{find-places}
+use Rattle.parts.proofs.Lines.{find-places}
 use Rattle.desk.specs.Lawful.{lawfulKey, lawful}
 use Rattle.desk.specs.Calls.{looks}
 use Rattle.refusals.specs.Stands.{early}
-use Rattle.refusals.specs.Refusing.{early-plain, refuses, keeps, clears}
-use Rattle.tables.specs.Tables.{look-early, look-untaught, look-room, look-end, look-done}
+use Rattle.refusals.proofs.Refusing.{early-plain, refuses, keeps, clears}
+use Rattle.tables.proofs.Tables.{look-early, look-untaught, look-room, look-end, look-done}
 use borrow.Author.Needs.{needs}
 use Rattle.tables.proofs.look.Statement.{statement}
 use Rattle.tables.proofs.look.Tie as tie

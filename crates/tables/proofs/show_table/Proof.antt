@@ -4,7 +4,7 @@ use Prim.Native.Nat.{_-_, _≤_}
 use native.Mathlib.Omega.{arith}
 use lib.ListN.{length, length-set}
 use Rattle.limits.specs.Limits.{contexts}
-use Rattle.tables.specs.Showing.{shown, shown-none, shown-next, shown-all}
+use Rattle.tables.proofs.Showing.{shown, shown-none, shown-next, shown-all}
 use borrow.Author.Needs.{needs}
 use Rattle.tables.proofs.show_table.Statement.{statement}
 use Rattle.tables.proofs.show_table.Tie as tie

@@ -7,7 +7,7 @@ use borrow.Author.Tests.{not-true, not-false}
 use mathlib.Core.Bool.{true}
 use lib.ListN.{length}
 use Rattle.template.specs.Pels.{rowPadded, bandPadded}
-use Rattle.template.specs.Padding.{row-within, row-is, row-long, padded-next, padded-not}
+use Rattle.template.proofs.Padding.{row-within, row-is, row-long, padded-next, padded-not}
 use Rattle.template.proofs.band_padded.Statement.{statement}
 use Rattle.template.proofs.band_padded.Tie as tie
 

@@ -1,7 +1,7 @@
 -- A pel of a row, and 0 past its right edge. Assumes nothing.
 use mathlib.Core.Path.{sym, _∙_}
 use native.Mathlib.Omega.{arith}
-use Rattle.template.specs.Window.{pels-at, pels-past}
+use Rattle.template.proofs.Sliding.{pels-at, pels-past}
 use borrow.Author.Needs.{needs}
 use Rattle.template.proofs.edge_pel.Statement.{statement}
 use Rattle.template.proofs.edge_pel.Tie as tie

@@ -3,7 +3,7 @@ use Prim.Native.Nat.{_+_}
 use mathlib.Core.Path.{refl}
 use native.Mathlib.Omega.{arith}
 use borrow.Author.Needs.{needs}
-use Rattle.template.specs.Words.{word-join}
+use Rattle.template.proofs.Words.{word-join}
 use Rattle.template.proofs.join.Statement.{statement}
 use Rattle.template.proofs.join.Tie as tie
 

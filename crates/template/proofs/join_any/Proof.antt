@@ -1,5 +1,5 @@
 -- A byte of the row, or 0 past its end. Assumes nothing.
-use Rattle.template.specs.Words.{word-past}
+use Rattle.template.proofs.Words.{word-past}
 use borrow.Author.Needs.{needs}
 use Rattle.template.proofs.join_any.Statement.{statement}
 use Rattle.template.proofs.join_any.Tie as tie

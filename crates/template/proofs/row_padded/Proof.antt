@@ -1,5 +1,5 @@
 -- The padding bits are the remainder of the row's last byte. Assumes nothing.
-use Rattle.template.specs.Padding.{shift-small, padded-by}
+use Rattle.template.proofs.Padding.{shift-small, padded-by}
 use Prim.Native.Nat.{_-_, _*_}
 use native.Mathlib.Omega.{arith}
 use borrow.Author.Needs.{needs}

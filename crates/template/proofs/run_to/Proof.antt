@@ -1,6 +1,6 @@
 -- The nearer of the two ends. Assumes nothing.
 use native.Mathlib.Omega.{arith}
-use Rattle.template.specs.White.{white-part, under-part}
+use Rattle.template.proofs.White.{white-part, under-part}
 use borrow.Author.Needs.{needs}
 use Rattle.template.proofs.run_to.Statement.{statement}
 use Rattle.template.proofs.run_to.Tie as tie

@@ -1,6 +1,6 @@
 -- Two places before the first black pel above, or at the right edge. Assumes nothing.
 use native.Mathlib.Omega.{arith}
-use Rattle.template.specs.White.{under-white}
+use Rattle.template.proofs.White.{under-white}
 use borrow.Author.Needs.{needs}
 use Rattle.template.proofs.under_to.Statement.{statement}
 use Rattle.template.proofs.under_to.Tie as tie

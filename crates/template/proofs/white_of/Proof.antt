@@ -1,7 +1,7 @@
 -- The leading zeros behind the mask are white pels. Assumes nothing.
 use native.Mathlib.Omega.{arith}
 use borrow.Author.Needs.{needs}
-use Rattle.template.specs.White.{white-word}
+use Rattle.template.proofs.White.{white-word}
 use Rattle.template.proofs.white_of.Statement.{statement}
 use Rattle.template.proofs.white_of.Tie as tie
 

@@ -4,7 +4,8 @@ use mathlib.Core.Logic.{_⊎_, inl, inr}
 use Prim.Native.Nat.{ℕ, _+_, _-_, _*_, _/_, _≤_, _<_}
 use native.Mathlib.Omega.{arith}
 use borrow.Author.Needs.{needs}
-use Rattle.template.specs.White.{White, white-more, white-part}
+use Rattle.template.specs.White.{White}
+use Rattle.template.proofs.White.{white-more, white-part}
 use Rattle.template.proofs.white_to.Statement.{statement}
 use Rattle.template.proofs.white_to.Tie as tie
 

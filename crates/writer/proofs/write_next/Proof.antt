@@ -4,7 +4,7 @@ use Prim.Native.Nat.{_+_, _-_, _*_}
 use native.Mathlib.Omega.{arith}
 use borrow.Author.Needs.{needs}
 use lib.ListN.{length}
-use Rattle.writer.specs.Bands.{sizes, part-wide, row-part, row-before}
+use Rattle.writer.proofs.Bands.{sizes, part-wide, row-part, row-before}
 use Rattle.writer.proofs.write_next.Statement.{statement}
 use Rattle.writer.proofs.write_next.Tie as tie
 

@@ -7,8 +7,10 @@ use lib.ListN.{length}
 use lib.Seq.{length-take-le}
 use Rattle.limits.specs.Limits.{lastBytes}
 use Rattle.template.specs.Pels.{rowAt, rowBytes}
-use Rattle.octets.specs.Fit.{Ready, ready-start}
-use Rattle.writer.specs.Bands.{BandAt, RowsKeep, band-first, start-count, keep-next, rows-fit, row-inside, band-length}
+use Rattle.octets.specs.Fit.{Ready}
+use Rattle.octets.proofs.Fit.{ready-start}
+use Rattle.writer.specs.Bands.{BandAt}
+use Rattle.writer.proofs.Bands.{RowsKeep, band-first, start-count, keep-next, rows-fit, row-inside, band-length}
 use Rattle.writer.proofs.write_rows.Statement.{statement}
 use Rattle.writer.proofs.write_rows.Tie as tie
 

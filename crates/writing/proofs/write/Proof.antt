@@ -10,18 +10,18 @@ use Rattle.limits.specs.Limits.{maxPages, maxRows, lastBytes}
 use Rattle.parts.specs.declared.Parts.{Parts}
 use Rattle.parts.specs.Parts.{asPage, deskOf, partsOf}
 use Rattle.parts.specs.Lines.{noPageLine}
-use Rattle.parts.specs.Puts.{page-as}
+use Rattle.parts.proofs.Puts.{page-as}
 use Rattle.desk.specs.Lawful.{within}
-use Rattle.desk.specs.OpenPages.{OpenPage, within-both}
+use Rattle.desk.proofs.OpenPages.{OpenPage, within-both}
 use Rattle.desk.specs.Calls.{writes}
 use Rattle.desk.specs.Standing.{stand, pageOf}
 use Rattle.desk.specs.Tests.{bandOf}
 use Rattle.parts.specs.Replies.{doneBy}
-use Rattle.refusals.specs.Refusing.{StoodTo, turned-to, standing-to, turns-away, refuses, keeps, clears}
-use Rattle.refusals.specs.Served.{pageIn, page-is, open-in, band-done}
+use Rattle.refusals.proofs.Refusing.{StoodTo, turned-to, standing-to, turns-away, refuses, keeps, clears}
+use Rattle.refusals.proofs.Served.{pageIn, page-is, open-in, band-done}
 use Rattle.template.specs.Pels.{rowBytes, bandPadded}
 use Rattle.writer.specs.declared.Wrote.{Wrote}
-use Rattle.writing.specs.Writes.{write-number, write-pels, write-padding, write-room, cleared-out, write-end, write-gave, write-lent, write-effect}
+use Rattle.writing.proofs.WriteAnswers.{write-number, write-pels, write-padding, write-room, cleared-out, write-end, write-gave, write-lent, write-effect}
 use borrow.Author.Needs.{needs}
 use Rattle.writing.proofs.write.Statement.{statement}
 use Rattle.writing.proofs.write.Tie as tie

@@ -1,7 +1,7 @@
 -- One pel coded: its part, then the doublings. Assumes nothing.
 use native.Mathlib.Omega.{arith}
 use borrow.Author.Needs.{needs}
-use Rattle.interval.specs.Growing.{Fits, part-fits}
+use Rattle.interval.proofs.Growing.{Fits, part-fits}
 use Rattle.interval.proofs.Interval.code.Statement.{statement}
 use Rattle.interval.proofs.Interval.code.Tie as tie
 

@@ -4,7 +4,7 @@ use Prim.Native.Nat.{ℕ, _+_}
 use native.Mathlib.Omega.{arith}
 use lib.Pow.{shl-exact}
 use borrow.Author.Needs.{needs}
-use Rattle.interval.specs.Growing.{jumped, grown-jumped}
+use Rattle.interval.proofs.Growing.{jumped, grown-jumped}
 use Rattle.interval.proofs.Interval.grow.Statement.{statement}
 use Rattle.interval.proofs.Interval.grow.Tie as tie
 

@@ -9,7 +9,7 @@ use Rattle.interval.specs.declared.Interval.{Interval}
 use Rattle.octets.specs.Octets.{bytes, finish}
 use Rattle.octets.specs.Fit.{Rest}
 use Rattle.octets.specs.Lift.{Out}
-use Rattle.octets.specs.Ending.{stays, Ending, ending-start, ending-low, ending-again, ending-end}
+use Rattle.octets.proofs.Ending.{stays, Ending, ending-start, ending-low, ending-again, ending-end}
 use Rattle.octets.proofs.Coder.finish.Statement.{statement}
 use Rattle.octets.proofs.Coder.finish.Tie as tie
 

@@ -2,7 +2,7 @@
 use mathlib.Core.Path.{refl, _∙_}
 use native.Mathlib.Omega.{arith}
 use borrow.Author.Needs.{needs}
-use Rattle.octets.specs.OnePel.{low-fits, pel-few, pel-bytes, split, left-over}
+use Rattle.octets.proofs.OnePel.{low-fits, pel-few, pel-bytes, split, left-over}
 use Rattle.octets.proofs.Coder.pel.Statement.{statement}
 use Rattle.octets.proofs.Coder.pel.Tie as tie
 

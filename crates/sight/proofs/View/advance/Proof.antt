@@ -5,8 +5,9 @@ use native.Mathlib.Omega.{arith}
 use lib.ListN.{length}
 use Rattle.octets.specs.Octets.{bits}
 use Rattle.exact.specs.Sight.{Sight}
-use Rattle.sight.specs.Views.{sightOf, seeks, seeks-few, seeks-more}
-use Rattle.octets.specs.Fit.{bits-few}
+use Rattle.sight.specs.Views.{sightOf, seeks}
+use Rattle.sight.proofs.Views.{seeks-few, seeks-more}
+use Rattle.octets.proofs.Fit.{bits-few}
 use Rattle.sight.proofs.View.advance.Statement.{statement}
 use Rattle.sight.proofs.View.advance.Tie as tie
 

@@ -2,7 +2,7 @@ use borrow.Author.Needs.{needs}
 -- One byte more in sight. Assumes nothing.
 use mathlib.Core.Path.{refl}
 use native.Mathlib.Omega.{arith}
-use Rattle.sight.specs.Views.{view-more, power-small, product-small}
+use Rattle.sight.proofs.Views.{view-more, power-small, product-small}
 use Rattle.sight.proofs.View.more.Statement.{statement}
 use Rattle.sight.proofs.View.more.Tie as tie
 

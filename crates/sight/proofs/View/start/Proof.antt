@@ -2,7 +2,7 @@ use borrow.Author.Needs.{needs}
 -- The first two bytes in sight. Assumes nothing.
 use mathlib.Core.Path.{refl}
 use native.Mathlib.Omega.{arith}
-use Rattle.sight.specs.Views.{view-start, power-small, product-small}
+use Rattle.sight.proofs.Views.{view-start, power-small, product-small}
 use Rattle.sight.proofs.View.start.Statement.{statement}
 use Rattle.sight.proofs.View.start.Tie as tie
 

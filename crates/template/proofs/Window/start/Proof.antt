@@ -1,5 +1,5 @@
 -- The window at the left edge. Assumes nothing.
-use Rattle.template.specs.Window.{slid-start}
+use Rattle.template.proofs.Sliding.{slid-start}
 use borrow.Author.Needs.{needs}
 use Rattle.template.proofs.Window.start.Statement.{statement}
 use Rattle.template.proofs.Window.start.Tie as tie

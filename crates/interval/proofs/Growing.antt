@@ -1,0 +1,71 @@
+-- The doublings, all of them at once, and how many they are. Assumes nothing.
+use mathlib.Core.Path.{_≡_, refl, sym, ap, _∙_}
+use mathlib.Core.Bool.{Bool, true, false, cond}
+use Prim.Native.Nat.{ℕ, zero, suc, _+_, _*_, _^_, _≤_, _<_}
+use native.Mathlib.Nat.{pow-succ', mul-one, add-zero}
+use native.Mathlib.Omega.{arith}
+use lib.Dec.{ltb}
+use borrow.Author.Tests.{lt-ltb}
+use Rattle.limits.specs.Limits.{maxShifts}
+use Rattle.ground.proofs.Tests.{if-ge, by-cond₂, by-cond}
+use Rattle.interval.specs.declared.Interval.{Interval}
+use Rattle.interval.specs.Interval.{decision, partOf, doubled, grown, doublings}
+
+-- k doublings at once
+abbrev pub jumped : ℕ → Interval → Interval
+jumped k i = record { low = i .low * 2 ^ k; width = i .width * 2 ^ k; count = i .count + k }
+
+pub jumped-none : (i : Interval) → i ≡ jumped 0 i
+jumped-none i = λ j. record { low = sym (mul-one (i .low)) j; width = sym (mul-one (i .width)) j; count = sym (add-zero (i .count)) j }
+
+pub jumped-more : (k : ℕ) (i : Interval) → jumped k (doubled i) ≡ jumped (suc k) i
+jumped-more k i = λ j. record { low = num (i .low) j; width = num (i .width) j; count = up (i .count) j }
+  where
+    num : (x : ℕ) → 2 * x * 2 ^ k ≡ x * 2 ^ suc k
+    num x = let e : x * 2 ^ suc k ≡ x * (2 * 2 ^ k) = ap (λ (y : ℕ). x * y) (pow-succ' 2 k) in omega arith
+
+    up : (s : ℕ) → suc s + k ≡ s + suc k
+    up s = omega arith
+
+-- the loop is that many doublings
+pub grown-jumped : (n : ℕ) (i : Interval) → grown n i ≡ jumped (doublings n (i .width)) i
+unfolding grown doublings
+grown-jumped zero i = jumped-none i
+grown-jumped (suc n) i =
+    by-cond₂ (λ (v : Interval) (k : ℕ). v ≡ jumped k i) (ltb (i .width) 4096) (grown n (doubled i)) i (suc (doublings n (2 * i .width))) 0
+    (λ t. grown-jumped n (doubled i) ∙ jumped-more (doublings n (2 * i .width)) i) (λ t. jumped-none i)
+
+-- none where the width is 1000 hex or more
+pub doublings-none : (n a : ℕ) → 4096 ≤ a → doublings n a ≡ 0
+unfolding doublings
+doublings-none zero a h = refl
+doublings-none (suc n) a h = if-ge a 4096 (suc (doublings n (2 * a))) 0 h
+
+-- there is a doubling exactly where the width is below 1000 hex
+pub doublings-some : (n a : ℕ) → ltb 0 (doublings (suc n) a) ≡ ltb a 4096
+unfolding doublings
+doublings-some n a =
+    by-cond₂ (λ (k : ℕ) (b : Bool). ltb 0 k ≡ b) (ltb a 4096) (suc (doublings n (2 * a))) 0 true false
+    (λ t. lt-ltb 0 (suc (doublings n (2 * a))) (omega arith)) (λ t. refl) ∙ whole-cond (ltb a 4096)
+  where
+    whole-cond : (b : Bool) → cond b true false ≡ b
+    whole-cond true = refl
+    whole-cond false = refl
+
+pub doublings-few : (n a : ℕ) → doublings n a ≤ n
+unfolding doublings
+doublings-few zero a = omega arith
+doublings-few (suc n) a =
+    by-cond (λ (k : ℕ). k ≤ suc n) (ltb a 4096) (suc (doublings n (2 * a))) 0 (λ t. omega (arith, doublings-few n (2 * a))) (λ t. omega arith)
+
+-- a pel's part is small enough to be doubled
+pub record Fits (v : Interval) : Type 0 where
+  pub some : 1 ≤ v .width
+  pub small : v .width < 8192
+  pub low : v .low < 2 ^ 26
+  pub count : v .count < maxShifts
+
+pub part-fits : (q : ℕ) (e : Bool) (i : Interval) → 4096 ≤ i .width → i .width < 8192 → 1 ≤ q → q ≤ 0xAC1 → i .low < 2 ^ 25 → i .count < maxShifts
+    → Fits (partOf (decision q e) i)
+part-fits q true i a b c d l n = record { some = omega arith; small = omega arith; low = omega arith; count = n }
+part-fits q false i a b c d l n = record { some = c; small = omega arith; low = omega arith; count = n }

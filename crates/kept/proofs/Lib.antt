@@ -1,0 +1,11 @@
+pub mod Bands
+pub mod Cells
+pub mod Changes
+pub mod Fair
+pub mod Kept
+pub mod Law
+pub mod Lists
+pub mod Room
+pub mod Sound
+pub mod Stored
+pub mod View

@@ -1,0 +1,5 @@
+pub mod Beside
+pub mod EmptyDesk
+pub mod Finding
+pub mod Lines
+pub mod Puts

@@ -1,0 +1,17 @@
+pub mod Accepted
+pub mod Base
+pub mod Desk
+pub mod Example
+pub mod Held
+pub mod Laws
+pub mod Office
+pub mod Order
+pub mod Own
+pub mod Rows
+pub mod Shelves
+pub mod SlotDesk
+pub mod Slots
+pub mod Steps
+pub mod Strike
+pub mod Tally
+pub mod Turns
