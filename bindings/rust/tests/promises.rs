@@ -1,12 +1,8 @@
 //! docs/PROMISES.md names what meets each sentence. Every file that it names
 //! is in the tree, and every name is declared in the file named before it.
 
-use std::collections::BTreeMap;
 use std::fs;
 use std::path::{Path, PathBuf};
-
-/// The files that short names stand for.
-type Short = BTreeMap<String, PathBuf>;
 
 fn root() -> PathBuf {
     Path::new(env!("CARGO_MANIFEST_DIR")).join("../..")
@@ -24,16 +20,22 @@ fn is_path(cited: &str) -> bool {
     cited.contains('/') || cited.ends_with(".txt")
 }
 
-/// The rows `| Name | `file` |` of the table of short names.
-fn short_names(text: &str) -> Short {
-    let row = |line: &str| {
-        let mut cells = line.split('|').map(str::trim).skip(1);
-        let name = cells.next()?.to_string();
-        let file = cells.next()?.strip_prefix('`')?.strip_suffix('`')?;
-        let word = !name.is_empty() && name.chars().all(char::is_alphanumeric);
-        (word && is_path(file)).then(|| (name, PathBuf::from(file)))
-    };
-    text.lines().filter_map(row).collect()
+/// The files that a citation may stand for: a path is itself; `crate/Module`
+/// is the module's definitions or its laws.
+fn files(cited: &str) -> Vec<PathBuf> {
+    let path = Path::new(cited);
+    if let Some((owner, module)) = cited.split_once('/') {
+        let home = Path::new("crates").join(owner);
+        if path.extension().is_none() && root().join(&home).is_dir() {
+            return ["specs", "proofs"]
+                .map(|folder| home.join(folder).join(module).with_extension("antt"))
+                .into_iter()
+                .filter(|file| root().join(file).exists())
+                .collect();
+        }
+    }
+    let there = root().join(path).exists();
+    there.then(|| path.to_path_buf()).into_iter().collect()
 }
 
 /// Whether a line of a source declares the name: `fn name`, `record Name`, or
@@ -65,13 +67,13 @@ fn declares(line: &str, name: &str, rattle: bool) -> bool {
     bare == Some(name) && (behind > 0 || typed && !rattle)
 }
 
-/// The source with that name: a crate's function, or the file before it.
-fn source_of<'a>(cited: &'a str, file: Option<&Path>) -> (Option<PathBuf>, &'a str) {
+/// The sources that may have that name: a crate's code, or the files before it.
+fn sources_of<'a>(cited: &'a str, before: &[PathBuf]) -> (Vec<PathBuf>, &'a str) {
     if let Some((owner, name)) = cited.split_once("::") {
         let source = Path::new("crates").join(owner).join("src/lib.rt");
-        return (Some(source), name.rsplit("::").next().unwrap_or(name));
+        return (vec![source], name.rsplit("::").next().unwrap_or(name));
     }
-    (file.map(Path::to_path_buf), cited)
+    (before.to_vec(), cited)
 }
 
 fn is_declared(source: &Path, name: &str) -> bool {
@@ -81,23 +83,20 @@ fn is_declared(source: &Path, name: &str) -> bool {
 }
 
 /// What is wrong with the citations of a line.
-fn faults(line: &str, short: &Short) -> Vec<String> {
-    let mut file: Option<PathBuf> = None;
+fn faults(line: &str) -> Vec<String> {
+    let mut before: Vec<PathBuf> = Vec::new();
     let mut faults = Vec::new();
-    for (cited, part) in parts(line) {
-        if !cited {
-            let words = part.split(|c: char| !c.is_alphanumeric());
-            file = words.filter_map(|w| short.get(w).cloned()).last().or(file);
-        } else if is_path(part) {
-            if !root().join(part).exists() {
-                faults.push(format!("no file {part}: {line}"));
+    for (_, cited) in parts(line).filter(|(cited, _)| *cited) {
+        if is_path(cited) {
+            before = files(cited);
+            if before.is_empty() {
+                faults.push(format!("no file {cited}: {line}"));
             }
-            file = Some(PathBuf::from(part));
-        } else {
-            let (source, name) = source_of(part, file.as_deref());
-            if !source.is_some_and(|source| is_declared(&source, name)) {
-                faults.push(format!("no name {part} in the file before it: {line}"));
-            }
+            continue;
+        }
+        let (sources, name) = sources_of(cited, &before);
+        if !sources.iter().any(|source| is_declared(source, name)) {
+            faults.push(format!("no name {cited} in the file before it: {line}"));
         }
     }
     faults
@@ -106,8 +105,7 @@ fn faults(line: &str, short: &Short) -> Vec<String> {
 #[test]
 fn every_name_is_there() {
     let text = fs::read_to_string(root().join("docs/PROMISES.md")).expect("the promises");
-    let short = short_names(&text);
-    let faults: Vec<String> = text.lines().flat_map(|line| faults(line, &short)).collect();
+    let faults: Vec<String> = text.lines().flat_map(faults).collect();
     assert!(faults.is_empty(), "{}", faults.join("\n"));
     let cited = text.matches('`').count() / 2;
     assert!(cited > 300, "only {cited} citations were read");
@@ -116,11 +114,11 @@ fn every_name_is_there() {
 /// The check can fail.
 #[test]
 fn a_missing_name_is_found() {
-    let short = short_names("| Pels | `crates/template/specs/Pels.antt` |");
-    assert_eq!(faults("Pels `context`", &short), Vec::<String>::new());
-    assert_eq!(faults("Pels `contexts`", &short).len(), 1);
-    assert_eq!(faults("`crates/template/specs/Pel.antt`", &short).len(), 1);
-    assert_eq!(faults("`context` of no file", &short).len(), 1);
-    assert_eq!(faults("`opening::open`, `opening::shut`", &short).len(), 1);
-    assert_eq!(faults("`counter::school`", &short).len(), 1);
+    assert_eq!(faults("`template/Pels` `context`"), Vec::<String>::new());
+    assert_eq!(faults("`template/Pels` `contexts`").len(), 1);
+    assert_eq!(faults("`template/Pel`").len(), 1);
+    assert_eq!(faults("`crates/template/specs/Pel.antt`").len(), 1);
+    assert_eq!(faults("`context` of no file").len(), 1);
+    assert_eq!(faults("`opening::open`, `opening::shut`").len(), 1);
+    assert_eq!(faults("`counter::school`").len(), 1);
 }
