@@ -72,8 +72,8 @@ returns-2 c =
     let put = page-as (ap (λ (x : PageLine). asPage x (l .fresh .result .entries) white) (l .before .new-line .ensures))
     (n .ensures) in (
       new-done (parts (start q)) (a .ask) (a .i) (c .done .result) (looked q .find-place .result) (r .result)
-          (n .result) _ _ _ (l .fresh .result) (is-free q ∙ not-false _ (o .if1 .left)) (sym (finds-free q)) (l .fresh .ensures)
-          (r .ensures) put (c .done .ensures),
+          (n .result) _ _ _ (l .fresh .result) (is-free q ∙ not-false _ (o .if1 .left)) (sym (finds-free q))
+          (l .fresh .ensures) (r .ensures) put (c .done .ensures),
       whole-as (ap (λ (x : Reply). x .book) (c .done .ensures))
           (page-whole (place-whole (start q .pre .1) (r .ensures)) put),
     )
