@@ -57,11 +57,14 @@ fn kind(act: &Act) -> usize {
     }
 }
 
+/// The numbers that a call can answer: 0, and those of the refusals.
+const NUMBERS: usize = 1 + siftpebble::Refusal::ALL.len();
+
 /// What was reached.
 #[derive(Default)]
 struct Report {
     /// For each kind of call the accepted ones, then the refused by number.
-    answers: [[u64; 13]; KINDS.len()],
+    answers: [[u64; NUMBERS]; KINDS.len()],
     ff_bytes: u64,
     carries: Carries,
 }
@@ -75,7 +78,7 @@ impl Report {
     fn lines(&self) -> Vec<(String, u64)> {
         let all = |number: usize| self.answers.iter().map(|kind| kind[number]).sum();
         let mut lines = vec![("accepted calls".to_string(), all(0))];
-        lines.extend((1..=12).map(|number| (format!("refusal {number}"), all(number))));
+        lines.extend((1..NUMBERS).map(|number| (format!("refusal {number}"), all(number))));
         lines.push(("FF bytes in codes".into(), self.ff_bytes));
         lines.push(("carries into a stuff bit".into(), self.carries.stuff));
         lines.push(("FE turned into FF by a carry".into(), self.carries.spent));
