@@ -1,9 +1,9 @@
 //! Bilevel pages for many classes over one desk.
 //!
 //! A page belongs to a [`Key`]: a school number and a class number. It is
-//! written or read in bands of 1 to 64 rows, and each band is one code. When a
-//! page is closed, what was learned from it becomes its class's learned table,
-//! from which the class's next page starts.
+//! written or read in bands of 1 to [`MAX_ROWS`] rows, and each band is one
+//! code. When a page is closed, what was learned from it becomes its class's
+//! learned table, from which the class's next page starts.
 //!
 //! The work is done by a library whose code is proved; this crate lends it a
 //! [`Desk`] and buffers. Any numbers, bytes and lengths may come in: every call
