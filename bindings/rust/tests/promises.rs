@@ -87,7 +87,7 @@ fn faults(line: &str, short: &Short) -> Vec<String> {
     for (cited, part) in parts(line) {
         if !cited {
             let words = part.split(|c: char| !c.is_alphanumeric());
-            file = words.filter_map(|w| short.get(w).cloned()).last().or(file);
+            file = words.rev().find_map(|w| short.get(w).cloned()).or(file);
         } else if is_path(part) {
             if !root().join(part).exists() {
                 faults.push(format!("no file {part}: {line}"));
