@@ -1,7 +1,6 @@
 //! The C example, compiled as C and as C++ and linked with the archive; and
 //! the numbers of the header, which are the crate's.
 
-use std::collections::BTreeSet;
 use std::env;
 use std::path::{Path, PathBuf};
 use std::process::Command;
@@ -113,7 +112,7 @@ const LIMITS: [(&str, u64); 10] = limits![
 ];
 
 /// The names that follow these words at the start of a line.
-fn names<'a>(text: &'a str, words: &'a str) -> BTreeSet<&'a str> {
+fn names<'a>(text: &'a str, words: &'a str) -> Vec<&'a str> {
     let behind = text.lines().filter_map(|line| line.strip_prefix(words));
     let name = |rest: &'a str| {
         rest.split(|c: char| !c.is_alphanumeric() && c != '_')
@@ -122,13 +121,13 @@ fn names<'a>(text: &'a str, words: &'a str) -> BTreeSet<&'a str> {
     behind.filter_map(name).collect()
 }
 
-/// No limit is in one of the two alone.
+/// No limit is in one of the two alone, and they stand in the same order.
 #[test]
 fn the_header_and_the_crate_have_the_same_limits() {
-    let here: BTreeSet<&str> = LIMITS.iter().map(|limit| limit.0).collect();
-    let mut header = names(HEADER, "#define SIFTPEBBLE_");
-    assert!(header.remove("H"), "the guard of the header");
-    assert_eq!(header, here);
+    let here: Vec<&str> = LIMITS.iter().map(|limit| limit.0).collect();
+    let header = names(HEADER, "#define SIFTPEBBLE_");
+    assert_eq!(header[0], "H", "the guard of the header");
+    assert_eq!(header[1..], here);
     assert_eq!(names(include_str!("../src/limits.rs"), "pub const "), here);
 }
 
