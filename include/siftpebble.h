@@ -40,6 +40,30 @@
 extern "C" {
 #endif
 
+/* The limits. */
+
+/* A school number and a class number are 1 to this. */
+#define SIFTPEBBLE_MAX_KEY 65535
+/* The open pages that a desk has room for. */
+#define SIFTPEBBLE_PAGES 4
+/* The class places of a desk. */
+#define SIFTPEBBLE_PLACES 8
+/* A page is 1 to this many pels wide. */
+#define SIFTPEBBLE_MAX_WIDTH 2048
+/* A band has 1 to this many rows. */
+#define SIFTPEBBLE_MAX_ROWS 64
+/* The most bytes of a band's code. */
+#define SIFTPEBBLE_MAX_CODE 32768
+/* The contexts of a table. */
+#define SIFTPEBBLE_CONTEXTS 128
+/* The bytes of a learned table: one for each context. */
+#define SIFTPEBBLE_TABLE_BYTES SIFTPEBBLE_CONTEXTS
+/* The bytes of the widest row. */
+#define SIFTPEBBLE_MAX_ROW_BYTES ((SIFTPEBBLE_MAX_WIDTH + 7) / 8)
+/* The bytes of all rows of the largest band. */
+#define SIFTPEBBLE_MAX_BAND_BYTES \
+    (SIFTPEBBLE_MAX_ROWS * SIFTPEBBLE_MAX_ROW_BYTES)
+
 /* Memory of siftpebble_desk_bytes() bytes, aligned to 8. */
 struct siftpebble_desk;
 

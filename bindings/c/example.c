@@ -44,7 +44,7 @@ int main(void)
 {
     struct siftpebble_desk *desk =
         (struct siftpebble_desk *)malloc(siftpebble_desk_bytes());
-    uint8_t table[128];
+    uint8_t table[SIFTPEBBLE_TABLE_BYTES];
     if (desk == NULL)
         return EXIT_FAILURE;
     siftpebble_empty(desk);

@@ -18,10 +18,10 @@ mod small;
 mod stack;
 mod times;
 
-use sheet::{Sheet, ROWS};
+use sheet::Sheet;
 use side::Side;
 use sides::Sides;
-use siftpebble_model::band::{MAX_CODE, MAX_WIDTH as WIDTH};
+use siftpebble::{MAX_CODE, MAX_ROWS as ROWS, MAX_WIDTH as WIDTH};
 use siftpebble_model::random::Random;
 use siftpebble_model::{sample, Direction};
 use times::{measure, Times};

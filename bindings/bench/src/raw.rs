@@ -3,6 +3,7 @@
 
 use crate::side::{Side, SCHOOL};
 use siftpebble::sys::{self, Answer, Desk};
+use siftpebble::Refusal;
 use siftpebble_model::Direction;
 use std::ffi::{c_char, c_int, c_void, CString};
 use std::mem::transmute;
@@ -157,7 +158,8 @@ impl Side for Raw {
 
     fn refused_close(&mut self, class: u64) {
         let number = self.page(self.calls.close, class);
-        assert_eq!(number, 2, "a close without a page");
+        let no_page = Refusal::NoPage.number();
+        assert_eq!(number, no_page, "a close without a page");
     }
 
     fn look(&mut self, class: u64, out: &mut [u8]) {

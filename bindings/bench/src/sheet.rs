@@ -1,8 +1,7 @@
 //! A sheet that is measured: its pels, cut into bands.
 
+use siftpebble::MAX_ROWS;
 use siftpebble_model::band::row_bytes;
-
-pub const ROWS: usize = 64;
 
 pub struct Sheet {
     pub name: &'static str,
@@ -23,7 +22,7 @@ impl Sheet {
 
     /// The bytes of a full band.
     pub fn band_bytes(&self) -> usize {
-        ROWS * row_bytes(self.width)
+        MAX_ROWS * row_bytes(self.width)
     }
 
     /// How many pels it has.

@@ -4,8 +4,7 @@ use crate::side::Side;
 use crate::sides::Sides;
 use crate::times::{measure, Times};
 use crate::{CLASS, REPETITIONS, WIDTH};
-use siftpebble_model::desk::{PAGES, PLACES};
-use siftpebble_model::table::CONTEXTS;
+use siftpebble::{PAGES, PLACES, TABLE_BYTES};
 use siftpebble_model::Direction;
 
 /// The first class with a learned table, and the first of the other pages.
@@ -75,7 +74,7 @@ pub fn time_calls(sides: &Sides) {
     println!("| call |{}", sides.head(""));
     println!("|---|{}", sides.rule());
     let line = |name, times: Times| println!("| {name} |{}", times.cells(CALLS));
-    let (mut code, mut table) = ([0; 16], [0; CONTEXTS]);
+    let (mut code, mut table) = ([0; 16], [0; TABLE_BYTES]);
     let write = |desk: &mut dyn Side| {
         desk.write(CLASS, 1, &[0], &mut code);
     };

@@ -2,13 +2,13 @@
 //! change while it runs.
 
 use crate::raw::{Calls, Raw};
-use crate::sheet::ROWS;
 use crate::side::Side;
 use crate::small::{fill, LEARNED};
 use crate::times::short;
 use crate::{CLASS, WIDTH};
 use siftpebble::sys::{Answer, Desk};
-use siftpebble_model::band::{row_bytes, MAX_CODE};
+use siftpebble::{MAX_CODE, MAX_ROWS};
+use siftpebble_model::band::row_bytes;
 use siftpebble_model::random::Random;
 use siftpebble_model::{sample, Direction};
 use std::hint::black_box;
@@ -245,7 +245,7 @@ pub fn measure_calls(other: Option<&str>) {
         " before | ratio |".repeat(libraries.len() - 1)
     );
     println!("|---|---|{}", "---|---|".repeat(libraries.len() - 1));
-    let mut bands = [Band::new(WIDTH, ROWS), Band::new(1, 1)];
+    let mut bands = [Band::new(WIDTH, MAX_ROWS), Band::new(1, 1)];
     for row in &BANDS {
         for band in &mut bands {
             let cells = row.cells(&libraries, band);

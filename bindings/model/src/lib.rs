@@ -6,12 +6,14 @@
 //! the benchmarks measure the library against, and so it is kept fast.
 //!
 //! The later modules are the means of such tests: [`call`] has calls as data,
-//! [`sample`] and [`run`] make random ones, and [`turns`] executes the
-//! "strike out and serve" of demand 3 on anything that serves calls.
+//! [`sample`] and [`run`] make random ones, [`turns`] executes the "strike out
+//! and serve" of demand 3 on anything that serves calls, and [`cores`] spreads
+//! such work over the machine.
 
 pub mod band;
 pub mod call;
 pub mod coder;
+pub mod cores;
 pub mod desk;
 pub mod random;
 pub mod refusal;

@@ -1,7 +1,7 @@
 //! Random runs of calls.
 
 use crate::band::{self, MAX_CODE, MAX_ROWS, MAX_WIDTH};
-use crate::call::{Act, Call};
+use crate::call::{Act, Call, Serve};
 use crate::desk::{Desk, Direction, Key, Page};
 use crate::random::Random;
 use crate::sample;
@@ -25,6 +25,18 @@ fn stray(random: &mut Random, last: u64) -> u64 {
         lawful + (1 << 32),
         lawful + (1 << 16),
     ])
+}
+
+/// A run of calls from an empty desk, made while the model follows it.
+pub fn calls(seed: u64, length: usize) -> Vec<Call> {
+    let mut run = Run::new(seed);
+    let mut desk = Desk::default();
+    let mut next = || {
+        let call = run.next(&desk);
+        desk.serve(&call);
+        call
+    };
+    (0..length).map(|_| next()).collect()
 }
 
 impl Run {

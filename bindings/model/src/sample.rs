@@ -344,41 +344,88 @@ pub fn digits(code: &[u8]) -> Vec<bool> {
     digits
 }
 
-/// The bytes of a number, once (at byte `late`) with `xx-1 FF 8y` where
-/// `xx 00 0y` would do. None where the digits do not allow it there.
-pub fn pack(digits: &[bool], late: Option<usize>) -> Option<Vec<u8>> {
-    let mut code: Vec<u8> = Vec::new();
-    let mut at = 0;
-    let mut stuff = 0;
-    while at < digits.len() {
-        let count = if code.last() == Some(&0xFF) { 7 } else { 8 };
-        let take = |at: usize| digits.get(at).copied().unwrap_or(false);
-        let new = (at..at + count).fold(0, |byte, at| byte << 1 | u8::from(take(at)));
-        at += count;
-        code.push(stuff | new);
-        stuff = 0;
-        if late == Some(code.len()) {
-            let zeros = !(at..at + 8).any(take);
-            if new == 0 || !zeros || code[code.len() - 1] == 0xFF {
-                return None;
-            }
-            code.pop();
-            code.extend([new - 1, 0xFF]);
-            at += 8;
-            stuff = 0x80;
+/// The bytes of a number, as far as they are made.
+#[derive(Clone)]
+struct Packing<'a> {
+    digits: &'a [bool],
+    at: usize,
+    code: Vec<u8>,
+    /// The stuff bit of the next byte.
+    stuff: u8,
+}
+
+impl Packing<'_> {
+    fn digit(&self, at: usize) -> bool {
+        self.digits.get(at).copied().unwrap_or(false)
+    }
+
+    fn is_done(&self) -> bool {
+        self.at >= self.digits.len()
+    }
+
+    fn next_byte(&mut self) {
+        let count = if self.code.last() == Some(&0xFF) {
+            7
+        } else {
+            8
+        };
+        let end = self.at + count;
+        let new = (self.at..end).fold(0, |byte, at| byte << 1 | u8::from(self.digit(at)));
+        self.code.push(self.stuff | new);
+        self.at = end;
+        self.stuff = 0;
+    }
+
+    /// The same with `xx-1 FF 8y` where `xx 00 0y` would do, `xx` being the
+    /// byte made last. None where the digits do not allow it there.
+    fn late(&self) -> Option<Self> {
+        let zeros = || !(self.at..self.at + 8).any(|at| self.digit(at));
+        let last = self.code.last().filter(|&&last| last != 0 && last != 0xFF);
+        let last = last.filter(|_| zeros())?;
+        let mut late = self.clone();
+        late.code.pop();
+        late.code.extend([last - 1, 0xFF]);
+        late.at += 8;
+        late.stuff = 0x80;
+        Some(late)
+    }
+
+    /// All bytes. None where a stuff bit is left without a byte.
+    fn finish(mut self) -> Option<Vec<u8>> {
+        while !self.is_done() {
+            self.next_byte();
+        }
+        (self.stuff == 0).then_some(self.code)
+    }
+}
+
+/// The forms of a code's number: one for each byte but the last that a carry
+/// may come to late, and the one in which none does.
+fn forms(good: &[u8]) -> Vec<Vec<u8>> {
+    let mut plain = Packing {
+        digits: &digits(good),
+        at: 0,
+        code: Vec::new(),
+        stuff: 0,
+    };
+    let mut forms = Vec::new();
+    for _ in 1..good.len() {
+        if plain.is_done() {
+            // the plain form has fewer bytes, and stands for those it has not
+            forms.push(plain.code.clone());
+        } else {
+            plain.next_byte();
+            forms.extend(plain.late().and_then(Packing::finish));
         }
     }
-    (stuff == 0).then_some(code)
+    forms.extend(plain.finish());
+    forms
 }
 
 /// Other bytes with the same number, where there are some.
 pub fn other_form(random: &mut Random, good: &[u8]) -> Vec<u8> {
-    let digits = digits(good);
-    let places = (1..good.len()).map(Some).chain([None]);
-    let forms: Vec<Vec<u8>> = places
-        .filter_map(|late| pack(&digits, late))
-        .filter(|form| form != good)
-        .collect();
+    let mut forms = forms(good);
+    forms.retain(|form| form != good);
     if forms.is_empty() {
         good.to_vec()
     } else {

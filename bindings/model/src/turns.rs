@@ -1,8 +1,11 @@
 //! Demand 3, executed: strike out, serve one page at a time, compare.
 
 use crate::call::{Act, Call, Outcome, Serve};
+use crate::cores::spread;
 use crate::desk::Key;
+use crate::run;
 use crate::table::CONTEXTS;
+use std::sync::Mutex;
 
 /// Where an accepted call is served: a drop or look, which is no page's own
 /// call, where it stood; a page's own call at that page's close. `None` for a
@@ -80,6 +83,21 @@ pub fn check<S: Serve>(calls: &[Call]) -> Result<Compared, String> {
         moved: serial.windows(2).filter(|pair| pair[0] > pair[1]).count(),
         tables,
     })
+}
+
+/// Checks so many random runs, with seeds from the first on, and answers what
+/// was compared in all of them. A difference is a panic.
+pub fn check_runs<S: Serve>(first: u64, runs: usize) -> Compared {
+    let total = Mutex::new(Compared::default());
+    spread(runs, &|number| {
+        let seed = first + number as u64;
+        let calls = run::calls(seed, 20 + seed as usize % 200);
+        match check::<S>(&calls) {
+            Ok(compared) => *total.lock().expect("no panic") += compared,
+            Err(difference) => panic!("run {seed}: {difference}"),
+        }
+    });
+    total.into_inner().expect("no panic")
 }
 
 /// Answers how many keys have a table, the same one on both desks.

@@ -1,33 +1,30 @@
 //! Demand 3 on the model, and on desks with a fault that breaks it.
 
 use siftpebble_model::call::{Act, Call, Outcome, Serve};
-use siftpebble_model::run::Run;
-use siftpebble_model::turns::{check, Compared};
+use siftpebble_model::cores::spread;
+use siftpebble_model::run::calls;
+use siftpebble_model::turns::{check, check_runs};
 use siftpebble_model::{Desk, Table};
+use std::sync::atomic::{AtomicUsize, Ordering};
 
-/// A run of calls, made while the model follows it.
-fn run(seed: u64, length: usize) -> Vec<Call> {
-    let mut run = Run::new(seed);
-    let mut desk = Desk::default();
-    (0..length)
-        .map(|_| {
-            let call = run.next(&desk);
-            desk.serve(&call);
-            call
-        })
-        .collect()
+#[test]
+fn work_is_done_once_for_each_number() {
+    let done = [const { AtomicUsize::new(0) }; 1000];
+    spread(done.len(), &|number| {
+        done[number].fetch_add(1, Ordering::Relaxed);
+    });
+    assert!(done.into_iter().all(|times| times.into_inner() == 1));
+}
+
+#[test]
+#[should_panic(expected = "number 7")]
+fn a_panic_is_handed_on() {
+    spread(20, &|number| assert_ne!(number, 7, "number {number}"));
 }
 
 #[test]
 fn any_order_of_turns() {
-    let mut total = Compared::default();
-    for seed in 0..4000 {
-        let calls = run(seed, 20 + seed as usize % 200);
-        match check::<Desk>(&calls) {
-            Ok(compared) => total += compared,
-            Err(difference) => panic!("run {seed}: {difference}"),
-        }
-    }
+    let total = check_runs::<Desk>(0, 4000);
     println!("{total:?}");
     assert!(total.bands > 10_000 && total.moved > 10_000 && total.tables > 10_000);
 }
@@ -139,8 +136,12 @@ impl Fault for FindsByClass {
 
 /// How many of two hundred runs show that demand 3 does not hold.
 fn caught<F: Fault>() -> usize {
-    let fails = |seed: &u64| check::<Faulty<F>>(&run(*seed, 150)).is_err();
-    (0..200).filter(fails).count()
+    let caught = AtomicUsize::new(0);
+    spread(200, &|seed| {
+        let checked = check::<Faulty<F>>(&calls(seed as u64, 150));
+        caught.fetch_add(usize::from(checked.is_err()), Ordering::Relaxed);
+    });
+    caught.into_inner()
 }
 
 #[test]

@@ -1,9 +1,9 @@
 //! Bilevel pages for many classes over one desk.
 //!
 //! A page belongs to a [`Key`]: a school number and a class number. It is
-//! written or read in bands of 1 to 64 rows, and each band is one code. When a
-//! page is closed, what was learned from it becomes its class's learned table,
-//! from which the class's next page starts.
+//! written or read in bands of 1 to [`MAX_ROWS`] rows, and each band is one
+//! code. When a page is closed, what was learned from it becomes its class's
+//! learned table, from which the class's next page starts.
 //!
 //! The work is done by a library whose code is proved; this crate lends it a
 //! [`Desk`] and buffers. Any numbers, bytes and lengths may come in: every call
@@ -36,17 +36,16 @@
 //! # }
 //! ```
 
+mod limits;
 mod refusal;
 pub mod sys;
 
+pub use limits::*;
 pub use refusal::Refusal;
 
 use sys::Answer;
 
-/// The bytes of a learned table.
-pub const TABLE_BYTES: usize = 128;
-
-/// A page's key. Lawful numbers are 1 to 65,535; others are refused
+/// A page's key. Lawful numbers are 1 to [`MAX_KEY`]; others are refused
 /// ([`Refusal::BadKey`]).
 #[derive(Clone, Copy, Debug, PartialEq, Eq, Hash, PartialOrd, Ord)]
 pub struct Key {
@@ -75,7 +74,7 @@ pub fn front(buffer: &[u8], length: usize) -> &[u8] {
     buffer.get(..length).unwrap_or_default()
 }
 
-/// A desk, with room for 4 open pages and 8 class places.
+/// A desk, with room for [`PAGES`] open pages and [`PLACES`] class places.
 ///
 /// A desk is plain memory: [`Desk::as_bytes`] gives its bytes to be kept, and
 /// [`Desk::from_bytes`] makes a desk of them again.
@@ -108,7 +107,10 @@ fn band(answer: Answer) -> Result<Band, Refusal> {
             length: answer.length as usize,
             shifts: answer.shifts,
         }),
-        number => Err(Refusal::from_number(number).expect("a number of document 01")),
+        number => match Refusal::from_number(number) {
+            Some(refusal) => Err(refusal),
+            None => panic!("the archive refused with {number}, which this crate does not know"),
+        },
     }
 }
 
@@ -173,7 +175,8 @@ impl Desk {
         self.memory.as_mut_ptr().cast()
     }
 
-    /// Opens the key's page to be written, with a width of 1 to 2,048 pels.
+    /// Opens the key's page to be written, with a width of 1 to [`MAX_WIDTH`]
+    /// pels.
     ///
     /// The page starts from the class's learned table, or from a fresh one if
     /// it has none, and with a white row above.
@@ -188,8 +191,8 @@ impl Desk {
         done(unsafe { sys::siftpebble_open_read(self.lend(), key.school, key.class, width) })
     }
 
-    /// Writes a band of 1 to 64 rows: its code comes into the front of `out`,
-    /// and the rest of `out` is kept.
+    /// Writes a band of 1 to [`MAX_ROWS`] rows: its code comes into the front
+    /// of `out`, and the rest of `out` is kept.
     ///
     /// `pels` are packed rows, the leftmost pel in the top bit, each row padded
     /// to a whole byte with zero bits. [`Refusal::NoRoom`] sets all of `out` to
@@ -245,8 +248,8 @@ impl Desk {
         Ok((front(out, band.length), band.shifts))
     }
 
-    /// Reads the code of a band of 1 to 64 rows: the packed rows come into the
-    /// front of `out`, and the rest of `out` is kept.
+    /// Reads the code of a band of 1 to [`MAX_ROWS`] rows: the packed rows come
+    /// into the front of `out`, and the rest of `out` is kept.
     ///
     /// A code is [`Refusal::Damaged`] exactly when no band of that width and
     /// height would, from the page's working table and last row, have been

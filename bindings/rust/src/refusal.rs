@@ -1,8 +1,12 @@
 //! The refusals.
 
+use crate::limits::{MAX_KEY, PAGES, PLACES};
 use std::fmt;
 
 /// Why a call was refused. A refused call changes nothing in the desk.
+///
+/// Later versions may have more refusals: each has a [`number`](Self::number)
+/// and says in words what it is.
 ///
 /// ```
 /// use siftpebble::Refusal;
@@ -12,27 +16,30 @@ use std::fmt;
 /// assert_eq!(Refusal::Damaged.to_string(), "the code is damaged");
 /// ```
 #[derive(Clone, Copy, Debug, PartialEq, Eq, Hash)]
+#[non_exhaustive]
 pub enum Refusal {
-    /// The school or class number is 0 or above 65,535.
+    /// The school or class number is 0 or above [`MAX_KEY`].
     BadKey = 1,
     /// A band, close or abandon without an open page.
     NoPage = 2,
     /// An open or drop while the key's page is open.
     PageOpen = 3,
-    /// An open while 4 pages are open.
+    /// An open while [`PAGES`] pages are open.
     PagesFull = 4,
-    /// An open for a class without a table, while 8 places are taken.
+    /// An open for a class without a table, while all [`PLACES`] are taken.
     PlacesFull = 5,
-    /// The width is not 1 to 2,048, the rows are not 1 to 64, the pels are not
-    /// exactly all rows, or the code has more than 32,768 bytes.
+    /// The width is not 1 to [`MAX_WIDTH`](crate::MAX_WIDTH), the rows are not
+    /// 1 to [`MAX_ROWS`](crate::MAX_ROWS), the pels are not exactly all rows,
+    /// or the code has more than [`MAX_CODE`](crate::MAX_CODE) bytes.
     BadSize = 6,
     /// The page is open in the other direction.
     OtherDirection = 7,
     /// A padding bit of the pels is 1.
     PaddingBit = 8,
-    /// The code is longer than the buffer or than 32,768 bytes, the rows are
-    /// longer than the buffer, or a look's buffer has fewer than 128 bytes.
-    /// All of the buffer is set to zero.
+    /// The code is longer than the buffer or than [`MAX_CODE`](crate::MAX_CODE)
+    /// bytes, the rows are longer than the buffer, or a look's buffer has fewer
+    /// than [`TABLE_BYTES`](crate::TABLE_BYTES). All of the buffer is set to
+    /// zero.
     NoRoom = 9,
     /// No band would have been written as these bytes. All of the buffer is set
     /// to zero; the page stays open.
@@ -45,7 +52,7 @@ pub enum Refusal {
 
 impl Refusal {
     /// All refusals, in the order of their numbers.
-    pub const ALL: [Refusal; 12] = [
+    pub const ALL: &[Refusal] = &[
         Refusal::BadKey,
         Refusal::NoPage,
         Refusal::PageOpen,
@@ -67,28 +74,27 @@ impl Refusal {
 
     /// The refusal with this number.
     pub fn from_number(number: u64) -> Option<Refusal> {
-        Refusal::ALL
-            .into_iter()
-            .find(|refusal| refusal.number() == number)
+        let mut all = Refusal::ALL.iter().copied();
+        all.find(|refusal| refusal.number() == number)
     }
 }
 
 impl fmt::Display for Refusal {
     fn fmt(&self, f: &mut fmt::Formatter) -> fmt::Result {
-        f.write_str(match self {
-            Refusal::BadKey => "the school or class number is not 1 to 65,535",
-            Refusal::NoPage => "the key has no page open",
-            Refusal::PageOpen => "the key's page is open",
-            Refusal::PagesFull => "four pages are open already",
-            Refusal::PlacesFull => "all eight class places are taken",
-            Refusal::BadSize => "a width, a number of rows or a length is not lawful",
-            Refusal::OtherDirection => "the page is open in the other direction",
-            Refusal::PaddingBit => "a padding bit of the pels is black",
-            Refusal::NoRoom => "there is no room for the result",
-            Refusal::Damaged => "the code is damaged",
-            Refusal::NoTable => "the class has no learned table",
-            Refusal::UnlawfulDesk => "the desk is not lawful",
-        })
+        match self {
+            Refusal::BadKey => write!(f, "the school or class number is not 1 to {MAX_KEY}"),
+            Refusal::NoPage => write!(f, "the key has no page open"),
+            Refusal::PageOpen => write!(f, "the key's page is open"),
+            Refusal::PagesFull => write!(f, "{PAGES} pages are open already"),
+            Refusal::PlacesFull => write!(f, "all {PLACES} class places are taken"),
+            Refusal::BadSize => write!(f, "a width, a number of rows or a length is not lawful"),
+            Refusal::OtherDirection => write!(f, "the page is open in the other direction"),
+            Refusal::PaddingBit => write!(f, "a padding bit of the pels is black"),
+            Refusal::NoRoom => write!(f, "there is no room for the result"),
+            Refusal::Damaged => write!(f, "the code is damaged"),
+            Refusal::NoTable => write!(f, "the class has no learned table"),
+            Refusal::UnlawfulDesk => write!(f, "the desk is not lawful"),
+        }
     }
 }
 

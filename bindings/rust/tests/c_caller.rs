@@ -1,4 +1,5 @@
-//! The C example, compiled as C and as C++ and linked with the archive.
+//! The C example, compiled as C and as C++ and linked with the archive; and
+//! the numbers of the header, which are the crate's.
 
 use std::env;
 use std::path::{Path, PathBuf};
@@ -6,43 +7,84 @@ use std::process::Command;
 
 const EXPECTED: &str = "P1: AC 10 S=2\nP7: A8 10 S=2\nlearned: 04 at context 0\n";
 
-/// Compiles the example with the compiler that the environment names, runs it
-/// and answers what it wrote.
-fn run_example(variable: &str, compiler: &str, language: &str, standard: &str) -> String {
-    let bindings = Path::new(env!("CARGO_MANIFEST_DIR")).join("..");
-    let program: PathBuf = Path::new(env!("CARGO_TARGET_TMPDIR")).join(language);
-    let compiler = env::var(variable).unwrap_or_else(|_| compiler.into());
-    let status = Command::new(compiler)
-        .args(["-Wall", "-Wextra", "-pedantic", "-Werror", standard])
-        .arg("-I")
-        .arg(bindings.join("../include"))
-        .args(["-x", language])
-        .arg(bindings.join("c/example.c"))
-        .args(["-x", "none", env!("SIFTPEBBLE_ARCHIVE")])
-        .arg("-o")
-        .arg(&program)
-        .status()
-        .expect("a compiler");
-    assert!(status.success());
-    let output = Command::new(program).output().expect("the example");
-    assert!(output.status.success());
-    String::from_utf8(output.stdout).expect("text")
+const HEADER: &str = include_str!("../../../include/siftpebble.h");
+
+/// A language with its standard, its compiler, and the variable of the
+/// environment that names another one.
+struct Language {
+    name: &'static str,
+    standard: &'static str,
+    compiler: &'static str,
+    variable: &'static str,
+}
+
+const C: Language = Language {
+    name: "c",
+    standard: "-std=c11",
+    compiler: "cc",
+    variable: "CC",
+};
+
+const CPP: Language = Language {
+    name: "c++",
+    standard: "-std=c++17",
+    compiler: "c++",
+    variable: "CXX",
+};
+
+fn bindings() -> PathBuf {
+    Path::new(env!("CARGO_MANIFEST_DIR")).join("..")
+}
+
+/// A file of a test's own.
+fn own_file(name: &str) -> PathBuf {
+    Path::new(env!("CARGO_TARGET_TMPDIR")).join(name)
+}
+
+impl Language {
+    /// The compiler on a source, with every warning an error.
+    fn compiler(&self, source: &Path) -> Command {
+        let compiler = env::var(self.variable).unwrap_or_else(|_| self.compiler.into());
+        let mut command = Command::new(compiler);
+        command
+            .args(["-Wall", "-Wextra", "-pedantic", "-Werror", self.standard])
+            .arg("-I")
+            .arg(bindings().join("../include"))
+            .args(["-x", self.name])
+            .arg(source);
+        command
+    }
+
+    /// Compiles the example and runs it; answers what it wrote.
+    fn run_example(&self) -> String {
+        let program = own_file(self.name);
+        let status = self
+            .compiler(&bindings().join("c/example.c"))
+            .args(["-x", "none", env!("SIFTPEBBLE_ARCHIVE")])
+            .arg("-o")
+            .arg(&program)
+            .status()
+            .expect("a compiler");
+        assert!(status.success());
+        let output = Command::new(program).output().expect("the example");
+        assert!(output.status.success());
+        String::from_utf8(output.stdout).expect("text")
+    }
 }
 
 #[test]
 fn from_c() {
-    assert_eq!(run_example("CC", "cc", "c", "-std=c11"), EXPECTED);
+    assert_eq!(C.run_example(), EXPECTED);
 }
 
 #[test]
 fn from_cpp() {
-    assert_eq!(run_example("CXX", "c++", "c++", "-std=c++17"), EXPECTED);
+    assert_eq!(CPP.run_example(), EXPECTED);
 }
 
-/// The header's names and numbers are the crate's.
+/// The header's names and numbers of the refusals are the crate's.
 #[test]
 fn the_header_has_the_numbers() {
-    let header = include_str!("../../../include/siftpebble.h");
     for refusal in siftpebble::Refusal::ALL {
         let mut name = String::new();
         for letter in format!("{refusal:?}").chars() {
@@ -53,6 +95,55 @@ fn the_header_has_the_numbers() {
         }
         let wanted = format!("SIFTPEBBLE{name} = {}", refusal.number());
         let there = |line: &str| line.trim().trim_end_matches(',') == wanted;
-        assert!(header.lines().any(there), "{wanted}");
+        assert!(HEADER.lines().any(there), "{wanted}");
+    }
+}
+
+/// The crate's limits by their names.
+macro_rules! limits {
+    ($($name:ident)*) => {
+        [$((stringify!($name), siftpebble::$name as u64)),*]
+    };
+}
+
+const LIMITS: [(&str, u64); 10] = limits![
+    MAX_KEY PAGES PLACES MAX_WIDTH MAX_ROWS MAX_CODE CONTEXTS TABLE_BYTES
+    MAX_ROW_BYTES MAX_BAND_BYTES
+];
+
+/// The names that follow these words at the start of a line.
+fn names<'a>(text: &'a str, words: &'a str) -> Vec<&'a str> {
+    let behind = text.lines().filter_map(|line| line.strip_prefix(words));
+    let name = |rest: &'a str| {
+        rest.split(|c: char| !c.is_alphanumeric() && c != '_')
+            .next()
+    };
+    behind.filter_map(name).collect()
+}
+
+/// No limit is in one of the two alone, and they stand in the same order.
+#[test]
+fn the_header_and_the_crate_have_the_same_limits() {
+    let here: Vec<&str> = LIMITS.iter().map(|limit| limit.0).collect();
+    let header = names(HEADER, "#define SIFTPEBBLE_");
+    assert_eq!(header[0], "H", "the guard of the header");
+    assert_eq!(header[1..], here);
+    assert_eq!(names(include_str!("../src/limits.rs"), "pub const "), here);
+}
+
+/// The compilers find each of the header's limits equal to the crate's.
+#[test]
+fn the_limits_are_equal() {
+    let equal = |(name, value)| {
+        format!("static_assert(SIFTPEBBLE_{name} == {value}, \"{name} is not {value}\");\n")
+    };
+    let lines: String = LIMITS.into_iter().map(equal).collect();
+    let source = own_file("limits.c");
+    let text = format!("#include \"siftpebble.h\"\n#include <assert.h>\n{lines}");
+    std::fs::write(&source, text).expect("a file");
+    for language in [C, CPP] {
+        let mut compiler = language.compiler(&source);
+        let status = compiler.arg("-fsyntax-only").status().expect("a compiler");
+        assert!(status.success(), "{}", language.name);
     }
 }

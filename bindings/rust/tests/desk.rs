@@ -74,8 +74,9 @@ fn looks() {
         assert_eq!(entry, u8::from(context == 0 || context == 16));
     }
     assert_eq!(table[TABLE_BYTES..], [0xA5; 2]);
-    assert_eq!(desk.look(KEY, &mut table[..127]), Err(Refusal::NoRoom));
-    assert!(table[..127].iter().all(|&byte| byte == 0));
+    let short = &mut table[..TABLE_BYTES - 1];
+    assert_eq!(desk.look(KEY, short), Err(Refusal::NoRoom));
+    assert!(short.iter().all(|&byte| byte == 0));
 }
 
 #[test]
@@ -98,13 +99,13 @@ fn bytes_of_a_desk() {
 
 #[test]
 fn refusals_have_their_numbers() {
-    for (i, refusal) in Refusal::ALL.into_iter().enumerate() {
-        assert_eq!(refusal.number(), i as u64 + 1);
-        assert_eq!(Refusal::from_number(i as u64 + 1), Some(refusal));
+    for (number, &refusal) in (1..).zip(Refusal::ALL) {
+        assert_eq!(refusal.number(), number);
+        assert_eq!(Refusal::from_number(number), Some(refusal));
         assert!(!refusal.to_string().is_empty());
     }
     assert_eq!(Refusal::from_number(0), None);
-    assert_eq!(Refusal::from_number(13), None);
+    assert_eq!(Refusal::from_number(Refusal::ALL.len() as u64 + 1), None);
 }
 
 #[test]

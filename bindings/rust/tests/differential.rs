@@ -12,9 +12,11 @@ use common::setting;
 use siftpebble_model::band::{self, row_bytes, MAX_CODE, MAX_ROWS, MAX_WIDTH};
 use siftpebble_model::call::{Act, Answer, Call, Outcome, Serve};
 use siftpebble_model::coder::Watch;
+use siftpebble_model::cores::spread;
 use siftpebble_model::random::Random;
 use siftpebble_model::run::Run;
 use siftpebble_model::{sample, Desk, Direction, Key, Page, Place, Refusal};
+use std::sync::Mutex;
 use std::time::Instant;
 
 /// The carries of one write.
@@ -57,13 +59,28 @@ fn kind(act: &Act) -> usize {
     }
 }
 
+/// The numbers that a call can answer: 0, and those of the refusals.
+const NUMBERS: usize = 1 + siftpebble::Refusal::ALL.len();
+
 /// What was reached.
 #[derive(Default)]
 struct Report {
     /// For each kind of call the accepted ones, then the refused by number.
-    answers: [[u64; 13]; KINDS.len()],
+    answers: [[u64; NUMBERS]; KINDS.len()],
     ff_bytes: u64,
     carries: Carries,
+}
+
+impl std::ops::AddAssign for Report {
+    fn add_assign(&mut self, more: Report) {
+        let counts = self.answers.as_flattened_mut().iter_mut();
+        for (count, more) in counts.zip(more.answers.as_flattened()) {
+            *count += more;
+        }
+        self.ff_bytes += more.ff_bytes;
+        self.carries.stuff += more.carries.stuff;
+        self.carries.spent += more.carries.spent;
+    }
 }
 
 impl Report {
@@ -75,7 +92,7 @@ impl Report {
     fn lines(&self) -> Vec<(String, u64)> {
         let all = |number: usize| self.answers.iter().map(|kind| kind[number]).sum();
         let mut lines = vec![("accepted calls".to_string(), all(0))];
-        lines.extend((1..=12).map(|number| (format!("refusal {number}"), all(number))));
+        lines.extend((1..NUMBERS).map(|number| (format!("refusal {number}"), all(number))));
         lines.push(("FF bytes in codes".into(), self.ff_bytes));
         lines.push(("carries into a stuff bit".into(), self.carries.stuff));
         lines.push(("FE turned into FF by a carry".into(), self.carries.spent));
@@ -309,27 +326,32 @@ fn misfits(seed: u64, times: u64, report: &mut Report) {
     }
 }
 
-type Part = (&'static str, fn(u64, u64, &mut Report));
+/// A part's name, the number of its seeds, and its work.
+type Part = (&'static str, u64, fn(u64, u64, &mut Report));
 
+/// The longest come first, so that the cores end at about one time.
 const PARTS: [Part; 6] = [
-    ("runs of calls", runs_of_calls),
-    ("calls on any lawful desk", calls_on_any_desk),
-    ("large bands", large_bands),
-    ("stray bits", stray_bits),
-    ("misfits", misfits),
-    ("white runs", white_runs),
+    ("runs of calls", 0, runs_of_calls),
+    ("calls on any lawful desk", 1, calls_on_any_desk),
+    ("white runs", 5, white_runs),
+    ("stray bits", 3, stray_bits),
+    ("large bands", 2, large_bands),
+    ("misfits", 4, misfits),
 ];
 
 fn main() {
     let seed = setting("SIFTPEBBLE_SEED", 1) << 32;
     let times = setting("SIFTPEBBLE_TIMES", 1);
-    let mut report = Report::default();
-    for (number, (name, part)) in PARTS.into_iter().enumerate() {
-        let start = Instant::now();
+    let total = Mutex::new(Report::default());
+    spread(PARTS.len(), &|part| {
+        let (name, number, work) = PARTS[part];
+        let (start, mut report) = (Instant::now(), Report::default());
         // each part its own desks
-        part(seed + ((number as u64) << 24), times, &mut report);
+        work(seed + (number << 24), times, &mut report);
         println!("{name}: {:.1} s", start.elapsed().as_secs_f64());
-    }
+        *total.lock().expect("no panic") += report;
+    });
+    let report = total.into_inner().expect("no panic");
     for (name, count) in report.lines() {
         println!("{count:>12}  {name}");
     }

@@ -6,37 +6,14 @@ mod common;
 
 use common::library::Safe;
 use common::setting;
-use siftpebble_model::call::{Call, Serve};
-use siftpebble_model::run::Run;
-use siftpebble_model::turns::{check, Compared};
-use siftpebble_model::Desk;
+use siftpebble_model::turns::check_runs;
 
 const RUNS: u64 = 3000;
-
-/// A run of calls, made while the model follows it.
-fn run(seed: u64) -> Vec<Call> {
-    let mut run = Run::new(seed);
-    let mut desk = Desk::default();
-    let length = 20 + seed as usize % 200;
-    let mut calls = Vec::with_capacity(length);
-    for _ in 0..length {
-        let call = run.next(&desk);
-        desk.serve(&call);
-        calls.push(call);
-    }
-    calls
-}
 
 fn main() {
     let first = setting("SIFTPEBBLE_SEED", 1) << 32;
     let runs = RUNS * setting("SIFTPEBBLE_TIMES", 1);
-    let mut total = Compared::default();
-    for seed in first..first + runs {
-        match check::<Safe>(&run(seed)) {
-            Ok(compared) => total += compared,
-            Err(difference) => panic!("run {seed}: {difference}"),
-        }
-    }
+    let total = check_runs::<Safe>(first, runs as usize);
     println!("strike out and serve: {runs} runs of {} calls", total.calls);
     println!(
         "served again: {} calls, {} of them bands",

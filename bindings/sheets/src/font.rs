@@ -1,6 +1,6 @@
 //! A small font of our own: letters of five by seven pels, drawn as they look.
 
-/// A glyph's width, and the step to the next one.
+/// From one letter to the next: its five pels, and one between them.
 pub const STEP: usize = 6;
 
 /// A line's height: seven rows, and two below for letters that hang down.

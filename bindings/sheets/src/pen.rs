@@ -5,9 +5,10 @@ use siftpebble_model::random::Random;
 
 type Point = (i32, i32);
 
-/// Points on a curve that leaves `from` and arrives at `to`, drawn to `by`.
+/// The steps in which a curve is drawn.
 const STEPS: i32 = 64;
 
+/// A curve that leaves `from` and arrives at `to`, drawn to `by`.
 fn curve(canvas: &mut Canvas, from: Point, by: Point, to: Point, nib: i32) {
     let between = |t: i32, from: i32, by: i32, to: i32| {
         let rest = STEPS - t;

@@ -1,11 +1,10 @@
 //! The command line.
 
 use crate::failure::Failure;
-use crate::frame::MAX_ROWS;
 use crate::help;
 use crate::input::Input;
-use crate::words::Given;
-use siftpebble::Key;
+use crate::options::Given;
+use siftpebble::{Key, MAX_KEY, MAX_ROWS};
 use std::collections::VecDeque;
 use std::ffi::OsString;
 
@@ -56,10 +55,10 @@ pub fn parse(words: impl Iterator<Item = OsString>) -> Result<Job, Failure> {
     let (takes, help) = match first.as_str() {
         "--help" | "-h" | "help" => return Ok(Job::Say(help::GENERAL.into())),
         "--version" | "-V" => return Ok(Job::Say(help::version())),
-        "pack" => (help::PACK_TAKES, help::PACK),
-        "unpack" => (help::UNPACK_TAKES, help::UNPACK),
-        "show" => (help::SHOW_TAKES, help::SHOW),
-        "look" => (help::LOOK_TAKES, help::LOOK),
+        "pack" => (help::PACK_TAKES, help::pack()),
+        "unpack" => (help::UNPACK_TAKES, help::UNPACK.into()),
+        "show" => (help::SHOW_TAKES, help::SHOW.into()),
+        "look" => (help::LOOK_TAKES, help::look()),
         _ => {
             let wrong = format!("there is no job {first:?}; see sift --help");
             return Err(Failure::Usage(wrong));
@@ -67,7 +66,7 @@ pub fn parse(words: impl Iterator<Item = OsString>) -> Result<Job, Failure> {
     };
     let usage = |wrong| Failure::Usage(format!("{first}: {wrong}; see sift {first} --help"));
     let Some(mut given) = Given::take(words, takes).map_err(usage)? else {
-        return Ok(Job::Say(help.into()));
+        return Ok(Job::Say(help));
     };
     let job = match first.as_str() {
         "pack" => given.pack().map(Job::Pack),
@@ -88,8 +87,8 @@ impl Given {
             return Err("standard input can be read once only".into());
         }
         let key = Key {
-            school: self.number("--school", 65_535, 1)?,
-            class: self.number("--class", 65_535, 1)?,
+            school: self.number("--school", MAX_KEY, 1)?,
+            class: self.number("--class", MAX_KEY, 1)?,
         };
         let most = MAX_ROWS as u64;
         Ok(Pack {

@@ -1,6 +1,8 @@
 //! What `--help` and `--version` say, and the options of each job.
 
-use crate::words::Takes;
+use crate::frame::MAX_HEIGHT;
+use crate::options::Takes;
+use siftpebble::{CONTEXTS, MAX_KEY, MAX_ROWS, MAX_WIDTH};
 
 pub const GENERAL: &str = "\
 sift packs black-and-white pages and reads them back, each class with its learned table.
@@ -25,23 +27,27 @@ pub const PACK_TAKES: &[Takes] = &[
     ("--quiet", false),
 ];
 
-pub const PACK: &str = "\
+pub fn pack() -> String {
+    format!(
+        "\
 sift pack [--school N] [--class N] [--rows R] [--force] [--quiet] PAGE.pbm... -o FILE
 
 Packs PBM pages (P1 or P4, one or more in a file, - for standard input) into FILE. The table
 that the class learns goes on from page to page, in the order given.
 
-  --school N   the school's number, 1 to 65535; 1 if not given
-  --class N    the class's number, 1 to 65535; 1 if not given
-  --rows R     the rows of a band, 1 to 64; 64 if not given
+  --school N   the school's number, 1 to {MAX_KEY}; 1 if not given
+  --class N    the class's number, 1 to {MAX_KEY}; 1 if not given
+  --rows R     the rows of a band, 1 to {MAX_ROWS}; {MAX_ROWS} if not given
   -o FILE      the packed file, - for standard output
   --force      replaces FILE if it is there
   --quiet      shows no progress on the terminal
 
-A page has at most 2048 pels in a row and 65535 rows. It keeps its file's name; the second
+A page has at most {MAX_WIDTH} pels in a row and {MAX_HEIGHT} rows. It keeps its file's name; the second
 picture of sheet.pbm is named sheet-2.pbm, and those of standard input page.pbm, page-2.pbm
 and so on. Two pages of one name are refused.
-";
+"
+    )
+}
 
 pub const UNPACK_TAKES: &[Takes] = &[
     ("-o", true),
@@ -81,17 +87,21 @@ The status is 0 only if every page came back as it was packed.
 
 pub const LOOK_TAKES: &[Takes] = &[("--quiet", false)];
 
-pub const LOOK: &str = "\
+pub fn look() -> String {
+    format!(
+        "\
 sift look [--quiet] FILE
 
 Reads a packed file (- for standard input) and prints the table that its class has learned after
-the last page: a line for each of the 128 contexts. A line has the context's number; its
+the last page: a line for each of the {CONTEXTS} contexts. A line has the context's number; its
 neighbours, black ones as #: five in the row above, from x-2 to x+2, and the two before the
 pel; the index of its row in the Q-table, 0 to 29, where a higher one is more certain; and its
 sense, which is the pel expected, 0 white or 1 black.
 
   --quiet      shows no progress on the terminal
-";
+"
+    )
+}
 
 pub fn version() -> String {
     format!("sift {}\n", env!("CARGO_PKG_VERSION"))

@@ -16,7 +16,7 @@ pub fn run(job: &Look) -> Result<(), Failure> {
     let packed = Packed::open(&job.input)?;
     let mut desk = Desk::new();
     packed.read(&mut desk, job.quiet, |_| Ok(()))?;
-    let header = packed.frame.header;
+    let header = packed.contents.header;
     let mut table = [0; TABLE_BYTES];
     let looked = desk.look(header.key, &mut table);
     looked.map_err(|refusal| Failure::data(packed.input, refusal))?;

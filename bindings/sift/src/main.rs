@@ -5,6 +5,7 @@
 //! files.
 
 mod args;
+mod contents;
 mod crc;
 mod failure;
 mod frame;
@@ -12,15 +13,14 @@ mod help;
 mod input;
 mod look;
 mod name;
+mod options;
 mod output;
 mod pack;
 mod pbm;
 mod progress;
 mod reading;
 mod show;
-mod taking;
 mod unpack;
-mod words;
 
 use args::Job;
 use failure::Failure;

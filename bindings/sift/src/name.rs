@@ -11,10 +11,11 @@ pub const UNNAMED: &str = "page.pbm";
 
 /// Whether a page may have this name; if not, why.
 pub fn check(name: &str) -> Result<(), String> {
+    let too_long = format!("it has more than {MAX_NAME} bytes");
     let fault = if name.is_empty() {
         "it is empty"
     } else if name.len() > MAX_NAME {
-        "it has more than 255 bytes"
+        &too_long
     } else if name == "." || name == ".." {
         "it is a directory's"
     } else if name.starts_with('-') {

@@ -3,13 +3,13 @@
 use crate::args::Pack;
 use crate::crc::crc32;
 use crate::failure::Failure;
-use crate::frame::{self, Header, Record, MAX_CODE, MAX_PAGES};
+use crate::frame::{self, Header, Record, MAX_PAGES};
 use crate::input::Input;
 use crate::name;
 use crate::output;
 use crate::pbm::{row_bytes, Picture, Pictures};
 use crate::progress::Progress;
-use siftpebble::{Desk, Key};
+use siftpebble::{Desk, Key, MAX_CODE};
 use std::collections::HashSet;
 use std::path::Path;
 

@@ -1,10 +1,7 @@
 //! PBM pictures, P1 and P4, read and written. A 1 is black, as at the desk.
 
-/// The widest page that the desk takes.
-pub const MAX_WIDTH: usize = 2048;
-
-/// The highest page that a packed file takes.
-pub const MAX_HEIGHT: usize = 65_535;
+use crate::frame::MAX_HEIGHT;
+use siftpebble::MAX_WIDTH;
 
 /// The longest line of a P1 file.
 const LINE: usize = 70;

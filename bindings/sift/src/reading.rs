@@ -1,20 +1,19 @@
 //! A packed file read page by page. A page is handed on only when every band
 //! of it was read and the rows are those that were packed.
 
+use crate::contents::{Contents, Page};
 use crate::crc::crc32;
 use crate::failure::Failure;
-use crate::frame::{Record, MAX_ROWS};
+use crate::frame::Record;
 use crate::input::Input;
-use crate::pbm::MAX_WIDTH;
 use crate::progress::Progress;
-use crate::taking::{self, Frame, Page};
-use siftpebble::{front, Desk};
+use siftpebble::{front, Desk, Refusal, MAX_BAND_BYTES};
 
 /// A packed file and its bytes.
 pub struct Packed<'a> {
     pub input: &'a Input,
     pub bytes: Vec<u8>,
-    pub frame: Frame,
+    pub contents: Contents,
 }
 
 /// A page that came back whole.
@@ -29,11 +28,11 @@ pub struct Whole<'a> {
 impl<'a> Packed<'a> {
     pub fn open(input: &'a Input) -> Result<Self, Failure> {
         let bytes = input.bytes()?;
-        let frame = taking::take_apart(&bytes).map_err(|fault| Failure::data(input, fault))?;
+        let contents = Contents::of(&bytes).map_err(|fault| Failure::data(input, fault))?;
         Ok(Packed {
             input,
             bytes,
-            frame,
+            contents,
         })
     }
 
@@ -48,7 +47,7 @@ impl<'a> Packed<'a> {
     ) -> Result<(), Failure> {
         let mut progress = Progress::new(quiet);
         let mut faults = Vec::new();
-        for (index, page) in self.frame.pages.iter().enumerate() {
+        for (index, page) in self.contents.pages.iter().enumerate() {
             match self.page(desk, index + 1, page, &mut progress) {
                 Ok(whole) => {
                     progress.clear();
@@ -61,7 +60,7 @@ impl<'a> Packed<'a> {
                 }
             }
         }
-        faults.extend(self.frame.faults.iter().cloned());
+        faults.extend(self.contents.faults.iter().cloned());
         if faults.is_empty() {
             return Ok(());
         }
@@ -77,7 +76,7 @@ impl<'a> Packed<'a> {
         page: &'p Page,
         progress: &mut Progress,
     ) -> Result<Whole<'p>, Vec<String>> {
-        let (key, record) = (self.frame.header.key, &page.record);
+        let (key, record) = (self.contents.header.key, &page.record);
         let place = format!("page {number} ({})", record.name);
         let refused = |refusal| vec![format!("{place}: {refusal}")];
         desk.open_read(key, record.width as u64).map_err(refused)?;
@@ -103,9 +102,9 @@ impl<'a> Packed<'a> {
         place: &str,
         progress: &mut Progress,
     ) -> Result<(Vec<u8>, Vec<u64>), Vec<String>> {
-        let (header, record) = (&self.frame.header, &page.record);
+        let (header, record) = (&self.contents.header, &page.record);
         let (mut rows, mut shifts) = (Vec::new(), Vec::new());
-        let mut buffer = [0; MAX_ROWS * MAX_WIDTH / 8];
+        let mut buffer = [0; MAX_BAND_BYTES];
         let mut codes = &self.bytes[page.codes.clone()];
         let bands = record.lengths.len();
         for (index, height) in record.band_rows(header.rows).enumerate() {
@@ -125,7 +124,7 @@ impl<'a> Packed<'a> {
 
     /// What is said of the pages after a refused one.
     fn not_read_after(&self, refused: usize) -> impl Iterator<Item = String> + '_ {
-        let later = self.frame.pages.iter().enumerate().skip(refused);
+        let later = self.contents.pages.iter().enumerate().skip(refused);
         later.map(move |(index, page)| {
             let (number, name) = (index + 1, &page.record.name);
             let why = format!("it needs the table learned from page {refused}");
@@ -135,12 +134,7 @@ impl<'a> Packed<'a> {
 }
 
 /// What is said of a refused band, and of those after it.
-fn refused_band(
-    place: &str,
-    band: usize,
-    bands: usize,
-    refusal: siftpebble::Refusal,
-) -> Vec<String> {
+fn refused_band(place: &str, band: usize, bands: usize, refusal: Refusal) -> Vec<String> {
     let why = format!("not read, since band {band} was refused");
     let mut lines = vec![format!("{place}, band {band}: {refusal}")];
     match bands - band {

@@ -10,7 +10,7 @@ use siftpebble::Desk;
 
 pub fn run(job: &Show) -> Result<(), Failure> {
     let packed = Packed::open(&job.input)?;
-    let header = packed.frame.header;
+    let header = packed.contents.header;
     let mut total = Total::default();
     output::to_stdout(head(&packed).as_bytes())?;
     let read = packed.read(&mut Desk::new(), job.quiet, |page| {
@@ -57,7 +57,7 @@ impl Total {
 }
 
 fn head(packed: &Packed) -> String {
-    let Header { key, rows, pages } = packed.frame.header;
+    let Header { key, rows, pages } = packed.contents.header;
     let (school, class) = (key.school, key.class);
     format!(
         "{}: school {school}, class {class}, bands of {rows} rows, pages: {pages}\n\

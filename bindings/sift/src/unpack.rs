@@ -35,7 +35,7 @@ pub fn run(job: &Unpack) -> Result<(), Failure> {
 /// Looks for files in the way before any page is written, so that a job is not
 /// done by half for a reason that could be known.
 fn check_room(packed: &Packed, directory: &Path, force: bool) -> Result<(), Failure> {
-    for page in &packed.frame.pages {
+    for page in &packed.contents.pages {
         output::check_free(&directory.join(&page.record.name), force)?;
     }
     Ok(())

@@ -1,8 +1,10 @@
-//! The worked example of docs/FORMAT.md is what the program writes.
+//! docs/FORMAT.md: its worked example is what the program writes, and its
+//! limits are the library's.
 
 mod common;
 
 use common::{crc32, directory, sift};
+use siftpebble::{MAX_CODE, MAX_KEY, MAX_ROWS, MAX_ROW_BYTES, MAX_WIDTH};
 
 const DOCUMENT: &str = include_str!("../../../docs/FORMAT.md");
 
@@ -40,6 +42,30 @@ fn the_worked_example() {
         .text()
         .contains("band 1: rows 2, code bytes 4, S 16\n"));
     assert!(shown.text().contains("band 2: rows 1, code bytes 3, S 8\n"));
+}
+
+/// A number as the document writes it, with a comma before three digits.
+fn with_commas(number: usize) -> String {
+    match number {
+        0..=999 => number.to_string(),
+        _ => format!("{},{:03}", with_commas(number / 1000), number % 1000),
+    }
+}
+
+#[test]
+fn the_limits_of_the_document() {
+    for (what, most, end) in [
+        ("rows of a band", MAX_ROWS, " |"),
+        ("school number", MAX_KEY as usize, " |"),
+        ("class number", MAX_KEY as usize, " |"),
+        ("width in pels", MAX_WIDTH, " |"),
+        ("bytes of each band's code", MAX_CODE, " each |"),
+    ] {
+        let row = format!("| {what} | 1 to {}{end}", with_commas(most));
+        assert!(DOCUMENT.contains(&row), "{row}");
+    }
+    let page = format!("at most 65,535 × {} bytes", with_commas(MAX_ROW_BYTES));
+    assert!(DOCUMENT.contains(&page), "{page}");
 }
 
 #[test]

@@ -3,6 +3,11 @@
 mod common;
 
 use common::{crc32, directory, header, names, one_pel, record, sift};
+use siftpebble::{MAX_CODE, MAX_ROWS, MAX_ROW_BYTES, MAX_WIDTH};
+use std::path::Path;
+
+/// The most pages of a file, and the most rows of a page.
+const MOST: usize = 65_535;
 
 /// Pages that cannot be packed, and what is said after `FILE: page `.
 const PAGES: &[(&[u8], &str)] = &[
@@ -42,58 +47,76 @@ const PAGES: &[(&[u8], &str)] = &[
     ),
     (b"P4 0 1 ", "1: it is 0 x 1 pels: there is no pel"),
     (b"P1 1 0 ", "1: it is 1 x 0 pels: there is no pel"),
-    (
-        b"P4 2049 1 ",
-        "1: it is 2049 pels wide, and the widest page is 2048: \
-         make it smaller, or cut it into strips",
-    ),
-    (
-        b"P1 1 65536 ",
-        "1: it is 65536 rows high, and the highest page is 65535: cut it into pages",
-    ),
-    (
-        b"P4 2048 99999999999999999999999 ",
-        "1: it is 18446744073709551615 rows high, and the highest page is 65535: \
-         cut it into pages",
-    ),
     (b"P4 9 2 \0\0\0", "1: its 2 rows are not all there"),
-    (b"P4 2048 65535 ", "1: its 65535 rows are not all there"),
-    (b"P1 2048 65535 1", "1: its 65535 rows are not all there"),
     (b"P1 3 1 0 #111\n1", "1: its 1 rows are not all there"),
     (b"P1 3 1 012", "1: a pel is neither 0 nor 1"),
     (
         b"P4 8 1 \0P1 1 1 1x",
         "3: it is no PBM picture: no P1 or P4 stands here",
     ),
-    (
-        b"P4 8 1 \0P4 4000 1 ",
-        "2: it is 4000 pels wide, and the widest page is 2048: \
-         make it smaller, or cut it into strips",
-    ),
 ];
+
+/// A page cannot be packed, by its name after one that can be, or by standard
+/// input.
+#[track_caller]
+fn not_packed(dir: &Path, pbm: &[u8], said: &str) {
+    std::fs::write(dir.join("good.pbm"), b"P4 8 1 \0").expect("a file");
+    std::fs::write(dir.join("a.pbm"), pbm).expect("a file");
+    let line = format!("sift: a.pbm: page {said}");
+    for output in ["f", "-"] {
+        let words = ["pack", "good.pbm", "a.pbm", "-o", output];
+        let ran = sift(dir, &words, b"").refused(1, &[&line]);
+        assert!(ran.stdout.is_empty());
+    }
+    let line = format!("sift: standard input: page {said}");
+    sift(dir, &["pack", "-", "-o", "f"], pbm).refused(1, &[&line]);
+    assert_eq!(names(dir), ["a.pbm", "good.pbm"]);
+}
 
 #[test]
 fn pages_that_cannot_be_packed() {
     let dir = directory("pages");
-    std::fs::write(dir.join("good.pbm"), b"P4 8 1 \0").expect("a file");
     for (pbm, said) in PAGES {
-        std::fs::write(dir.join("a.pbm"), pbm).expect("a file");
-        let line = format!("sift: a.pbm: page {said}");
-        for output in ["f", "-"] {
-            let words = ["pack", "good.pbm", "a.pbm", "-o", output];
-            let ran = sift(&dir, &words, b"").refused(1, &[&line]);
-            assert!(ran.stdout.is_empty());
-        }
-        let line = format!("sift: standard input: page {said}");
-        sift(&dir, &["pack", "-", "-o", "f"], pbm).refused(1, &[&line]);
+        not_packed(&dir, pbm, said);
     }
-    assert_eq!(names(&dir), ["a.pbm", "good.pbm"]);
+}
+
+#[test]
+fn pages_too_wide_or_too_high() {
+    let dir = directory("too_large");
+    let wide = |width: usize| {
+        format!(
+            "it is {width} pels wide, and the widest page is {MAX_WIDTH}: \
+             make it smaller, or cut it into strips"
+        )
+    };
+    let high = |height: usize| {
+        format!("it is {height} rows high, and the highest page is {MOST}: cut it into pages")
+    };
+    let short = format!("its {MOST} rows are not all there");
+    let (over, far) = (MAX_WIDTH + 1, 2 * MAX_WIDTH);
+    let cases = [
+        (format!("P4 {over} 1 "), 1, wide(over)),
+        (format!("P4 8 1 \0P4 {far} 1 "), 2, wide(far)),
+        (format!("P1 1 {} ", MOST + 1), 1, high(MOST + 1)),
+        (
+            format!("P4 {MAX_WIDTH} 99999999999999999999999 "),
+            1,
+            high(usize::MAX),
+        ),
+        (format!("P4 {MAX_WIDTH} {MOST} "), 1, short.clone()),
+        (format!("P1 {MAX_WIDTH} {MOST} 1"), 1, short),
+    ];
+    for (pbm, page, said) in cases {
+        not_packed(&dir, pbm.as_bytes(), &format!("{page}: {said}"));
+    }
 }
 
 #[test]
 fn the_widest_page_is_packed() {
     let dir = directory("widest");
-    let pbm = [b"P4 2048 1 ".as_slice(), &[0x5A; 256]].concat();
+    let header = format!("P4 {MAX_WIDTH} 1 ");
+    let pbm = [header.as_bytes(), &[0x5A; MAX_ROW_BYTES]].concat();
     sift(&dir, &["pack", "-", "-o", "f"], &pbm).fine();
 }
 
@@ -158,13 +181,14 @@ fn a_name_that_is_no_text() {
 #[test]
 fn as_many_pages_as_a_file_has() {
     let dir = directory("pages_at_most");
-    let pages = b"P4\n1 1\n\x80".repeat(65_535);
+    let pages = b"P4\n1 1\n\x80".repeat(MOST);
     let file = sift(&dir, &["pack", "-", "-o", "-"], &pages).fine();
     let back = sift(&dir, &["unpack", "-", "-o", "-"], &file.stdout).fine();
     assert!(back.stdout == pages);
     let more = [&pages[..], b"P1 1 1 1"].concat();
-    let line = "sift: standard input: page 65536: a file has at most 65535 pages";
-    sift(&dir, &["pack", "-", "-o", "f"], &more).refused(1, &[line]);
+    let over = MOST + 1;
+    let line = format!("sift: standard input: page {over}: a file has at most {MOST} pages");
+    sift(&dir, &["pack", "-", "-o", "f"], &more).refused(1, &[&line]);
     assert!(names(&dir).is_empty());
 }
 
@@ -220,12 +244,13 @@ fn headers_that_are_refused() {
     let ends = "the file ends within its header";
     refused("short", b"SIFT", &[ends]);
     let limits = "the header has a number out of its limits";
+    let most = MAX_ROWS as u8;
     for (rows, school, class, pages) in [
         (0, 1, 1, 1),
-        (65, 1, 1, 1),
-        (64, 0, 1, 1),
-        (64, 1, 0, 1),
-        (64, 1, 1, 0),
+        (most + 1, 1, 1, 1),
+        (most, 0, 1, 1),
+        (most, 1, 0, 1),
+        (most, 1, 1, 0),
     ] {
         let file = [&header(rows, school, class, pages)[..], b"END\n"].concat();
         refused("header", &file, &[limits]);
@@ -235,17 +260,18 @@ fn headers_that_are_refused() {
 #[test]
 fn numbers_of_a_page_out_of_their_limits() {
     let limits = "page 1: the page record has a number out of its limits";
+    let (wide, rows, long) = (MAX_WIDTH as u16, MAX_ROWS as u8, MAX_CODE as u16);
     for (width, height, lengths) in [
         (0, 1, &[2][..]),
-        (2049, 1, &[2]),
+        (wide + 1, 1, &[2]),
         (1, 0, &[]),
         (1, 1, &[0]),
-        (1, 1, &[32_769]),
-        (1, 65, &[2, 0]),
+        (1, 1, &[long + 1]),
+        (1, u16::from(rows) + 1, &[2, 0]),
     ] {
         let record = record(width, height, b"a", lengths, 0);
         let codes = vec![0; lengths.iter().map(|&length| usize::from(length)).sum()];
-        let file = [&header(64, 1, 1, 1)[..], &record, &codes, b"END\n"].concat();
+        let file = [&header(rows, 1, 1, 1)[..], &record, &codes, b"END\n"].concat();
         assert!(refused("numbers", &file, &[limits]).is_empty());
     }
 }

@@ -4,6 +4,7 @@
 mod common;
 
 use common::{directory, packed, sift, Sheet};
+use siftpebble::{CONTEXTS, MAX_KEY, MAX_ROWS, MAX_WIDTH};
 use siftpebble_model::random::Random;
 use siftpebble_model::Key;
 use std::path::Path;
@@ -16,12 +17,14 @@ const KEY: Key = Key {
 /// Widths at the edges of bytes and of what is lawful, and others.
 fn width(random: &mut Random) -> usize {
     let any = random.between(1, 300);
-    random.pick(&[1, 2, 7, 8, 9, 63, 64, 65, 2047, 2048, any, any, any])
+    let (wide, widest) = (MAX_WIDTH - 1, MAX_WIDTH);
+    random.pick(&[1, 2, 7, 8, 9, 63, 64, 65, wide, widest, any, any, any])
 }
 
 fn height(random: &mut Random) -> usize {
     let any = random.between(1, 150);
-    random.pick(&[1, 2, 63, 64, 65, 128, any, any])
+    let (less, more) = (MAX_ROWS - 1, MAX_ROWS + 1);
+    random.pick(&[1, 2, less, MAX_ROWS, more, 2 * MAX_ROWS, any, any])
 }
 
 fn save(dir: &Path, name: &str, bytes: &[u8]) {
@@ -31,10 +34,10 @@ fn save(dir: &Path, name: &str, bytes: &[u8]) {
 /// Packs these pages with random numbers, and answers them and the file.
 fn pack(dir: &Path, random: &mut Random, names: &[&str]) -> (Key, usize, Vec<u8>) {
     let key = Key {
-        school: random.pick(&[1, 2, 65_535]),
-        class: random.pick(&[1, 5, 65_535]),
+        school: random.pick(&[1, 2, MAX_KEY]),
+        class: random.pick(&[1, 5, MAX_KEY]),
     };
-    let rows = random.pick(&[1, 2, 17, 63, 64]);
+    let rows = random.pick(&[1, 2, 17, MAX_ROWS - 1, MAX_ROWS]);
     let school = key.school.to_string();
     let (class, rows_word) = (format!("--class={}", key.class), rows.to_string());
     let options = ["pack", "--school", &school, &class, "--rows", &rows_word];
@@ -239,7 +242,7 @@ fn look_is_the_learned_table() {
     assert!(model.table.iter().any(|&entry| entry != 0));
     let ran = sift(&dir, &["look", "-"], &model.file).fine();
     let lines: Vec<_> = ran.text().lines().skip(2).collect();
-    assert_eq!(lines.len(), 128);
+    assert_eq!(lines.len(), CONTEXTS);
     for (context, line) in lines.into_iter().enumerate() {
         let words: Vec<_> = line.split_whitespace().collect();
         let black = |bits: &[usize]| -> String {

@@ -1,5 +1,6 @@
 //! How a desk lies in the lent memory, so that a test sees the whole of it.
 
+use siftpebble::{MAX_ROW_BYTES, PAGES, PLACES, TABLE_BYTES};
 use siftpebble_model::band::State;
 use siftpebble_model::{Desk, Direction, Key, Page, Place};
 
@@ -10,8 +11,8 @@ use siftpebble_model::{Desk, Direction, Key, Page, Place};
 // ---------------------------------------------------------------------------
 
 struct RawDesk {
-    pages: [RawPage; 4],
-    places: [RawPlace; 8],
+    pages: [RawPage; PAGES],
+    places: [RawPlace; PLACES],
 }
 
 struct RawPage {
@@ -19,15 +20,15 @@ struct RawPage {
     school: u64,
     class: u64,
     width: u64,
-    table: [u8; 128],
-    last: [u8; 256],
+    table: [u8; TABLE_BYTES],
+    last: [u8; MAX_ROW_BYTES],
 }
 
 struct RawPlace {
     state: u64,
     school: u64,
     class: u64,
-    table: [u8; 128],
+    table: [u8; TABLE_BYTES],
 }
 
 const FREE_PAGE: RawPage = RawPage {
@@ -35,15 +36,15 @@ const FREE_PAGE: RawPage = RawPage {
     school: 0,
     class: 0,
     width: 0,
-    table: [0; 128],
-    last: [0; 256],
+    table: [0; TABLE_BYTES],
+    last: [0; MAX_ROW_BYTES],
 };
 
 const FREE_PLACE: RawPlace = RawPlace {
     state: 0,
     school: 0,
     class: 0,
-    table: [0; 128],
+    table: [0; TABLE_BYTES],
 };
 
 /// A page's state; 0 is unused.
@@ -221,8 +222,8 @@ pub fn desk_image(desk: &Desk) -> Image {
 /// The model desk that these bytes are, if they are a lawful one.
 pub fn desk_of(bytes: &[u8]) -> Option<Desk> {
     let mut raw = RawDesk {
-        pages: [FREE_PAGE; 4],
-        places: [FREE_PLACE; 8],
+        pages: [FREE_PAGE; PAGES],
+        places: [FREE_PLACE; PLACES],
     };
     let mut memory = Memory {
         bytes: bytes.to_vec(),

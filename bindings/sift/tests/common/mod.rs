@@ -4,6 +4,7 @@
 // each test program uses a part of it
 #![allow(dead_code)]
 
+use siftpebble_model::band::MAX_CODE;
 use siftpebble_model::random::Random;
 use siftpebble_model::{sample, Desk, Direction, Key, Table};
 use std::io::Write;
@@ -219,7 +220,7 @@ fn model_page(desk: &mut Desk, key: Key, rows: usize, sheet: &Sheet) -> Vec<(u64
     desk.open(key, Direction::Write, width).expect("room");
     let bands = sheet.rows.chunks(rows * sheet.row_bytes()).map(|pels| {
         let rows = (pels.len() / sheet.row_bytes()) as u64;
-        let mut out = vec![0; 32_768];
+        let mut out = vec![0; MAX_CODE];
         let band = desk.write(key, rows, pels, &mut out).expect("room");
         out.truncate(band.length);
         (rows, out, band.shifts)

@@ -1,4 +1,4 @@
-//! The words of a command line, taken apart into options and files.
+//! The options of a command line, and the files that it names.
 
 use crate::input::Input;
 use std::collections::VecDeque;

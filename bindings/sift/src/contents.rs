@@ -1,11 +1,10 @@
-//! A packed file taken apart. Any bytes may come in: no length is believed
+//! What is in a packed file. Any bytes may come in: no length is believed
 //! before the bytes are there.
 
 use crate::crc::crc32;
-use crate::frame::{Header, Record, END, HEADER_BYTES, MAGIC, MAX_CODE, MAX_ROWS, VERSION};
+use crate::frame::{Header, Record, END, HEADER_BYTES, MAGIC, MAX_HEIGHT, MAX_PAGES, VERSION};
 use crate::name;
-use crate::pbm::MAX_WIDTH;
-use siftpebble::Key;
+use siftpebble::{Key, MAX_CODE, MAX_KEY, MAX_ROWS, MAX_WIDTH};
 use std::collections::HashSet;
 use std::ops::Range;
 
@@ -16,28 +15,29 @@ pub struct Page {
     pub codes: Range<usize>,
 }
 
-/// A file taken apart: all its pages, or those before the first fault.
-pub struct Frame {
+/// A file's header and all its pages, or those before the first fault.
+pub struct Contents {
     pub header: Header,
     pub pages: Vec<Page>,
     pub faults: Vec<String>,
 }
 
-/// Takes a file apart. Only a header that is wrong is an error by itself:
-/// what stands before a later fault can still be read.
-pub fn take_apart(bytes: &[u8]) -> Result<Frame, String> {
-    let mut frame = Frame {
-        header: header(bytes)?,
-        pages: Vec::new(),
-        faults: Vec::new(),
-    };
-    if let Err(fault) = pages(bytes, &frame.header, &mut frame.pages) {
-        frame.faults.push(fault);
-        frame
-            .faults
-            .extend(lost(frame.pages.len() + 2, frame.header.pages));
+impl Contents {
+    /// Takes a file apart. Only a header that is wrong is an error by itself:
+    /// what stands before a later fault can still be read.
+    pub fn of(bytes: &[u8]) -> Result<Self, String> {
+        let header = header(bytes)?;
+        let (mut found, mut faults) = (Vec::new(), Vec::new());
+        if let Err(fault) = pages(bytes, &header, &mut found) {
+            faults.push(fault);
+            faults.extend(lost(found.len() + 2, header.pages));
+        }
+        Ok(Contents {
+            header,
+            pages: found,
+            faults,
+        })
     }
-    Ok(frame)
 }
 
 /// What is said of the pages after one whose place or size is in doubt.
@@ -59,7 +59,11 @@ fn header(bytes: &[u8]) -> Result<Header, String> {
     }
     match bytes.get(MAGIC.len()) {
         Some(&VERSION) | None => (),
-        Some(other) => return Err(format!("its format is version {other}, and 1 is known")),
+        Some(other) => {
+            return Err(format!(
+                "its format is version {other}, and {VERSION} is known"
+            ))
+        }
     }
     let Some(bytes) = bytes.get(..HEADER_BYTES) else {
         return Err("the file ends within its header".into());
@@ -72,7 +76,12 @@ fn header(bytes: &[u8]) -> Result<Header, String> {
         class: get_16(bytes, 8) as u64,
     };
     let (rows, pages) = (usize::from(bytes[5]), get_16(bytes, 10));
-    if key.school == 0 || key.class == 0 || pages == 0 || !(1..=MAX_ROWS).contains(&rows) {
+    let numbers = 1..=MAX_KEY;
+    let lawful = numbers.contains(&key.school)
+        && numbers.contains(&key.class)
+        && (1..=MAX_ROWS).contains(&rows)
+        && (1..=MAX_PAGES).contains(&pages);
+    if !lawful {
         return Err("the header has a number out of its limits".into());
     }
     Ok(Header { key, rows, pages })
@@ -136,8 +145,10 @@ fn record(bytes: &[u8], at: usize, rows: usize) -> Result<(Record, usize), Strin
         .step_by(2)
         .map(|at| get_16(record, at))
         .collect();
-    let lawful = |length: &usize| (1..=MAX_CODE).contains(length);
-    if !(1..=MAX_WIDTH).contains(&width) || height == 0 || !lengths.iter().all(lawful) {
+    let lawful = (1..=MAX_WIDTH).contains(&width)
+        && (1..=MAX_HEIGHT).contains(&height)
+        && lengths.iter().all(|length| (1..=MAX_CODE).contains(length));
+    if !lawful {
         return Err("the page record has a number out of its limits".into());
     }
     let page = Record {
