@@ -36,13 +36,12 @@ abbrev μ-loop : tie.MeasureT-loop
     width - x
 
 -- ---- the stations of a row: each is a place passed on the way, seen from a later one
--- the row's own copies are made
-abbrev copied : tie.After-view Inv-loop μ-loop → tie.Start Inv-loop μ-loop
-copied c = c .before .before .before .before .before
+-- the row begins, seen from where its own copies are made, and from a turn
+abbrev begin : tie.After-view Inv-loop μ-loop → tie.Start Inv-loop μ-loop
+begin c = c .before .before .before .before .before
 
--- the row begins, seen from a turn
-abbrev begin : tie.In-loop Inv-loop μ-loop → tie.Start Inv-loop μ-loop
-begin c = copied (c .before .before .before)
+abbrev begin₁ : tie.In-loop Inv-loop μ-loop → tie.Start Inv-loop μ-loop
+begin₁ c = begin (c .before .before .before)
 
 -- the turn begins, seen from where context 0 is looked at
 abbrev turn : tie.After-white Inv-loop μ-loop → tie.In-loop Inv-loop μ-loop
@@ -73,16 +72,16 @@ pel-turn c = turn (looked c)
 -- ---- what is known in a turn
 edge : (c : tie.In-loop Inv-loop μ-loop) → let w = c .before .loop .window in (w .above < 32) × (w .this < 4)
 edge c =
-    let a = begin c .args in
+    let a = begin₁ c .args in
     read-window _ _ _ _ _ _ _ _ _ _ _ _ _ _ _ _ (pels-bits (a .above .now) (a .width)) (c .before .loop .inv .0)
 
 -- ---- the answers
 start-requires : tie.Need-start-requires Inv-loop μ-loop
-start-requires c κs = copied c .pre .1
+start-requires c κs = begin c .pre .1
 
 loop-holds : tie.Need-loop-holds Inv-loop μ-loop
 loop-holds c =
-    let p = copied (c .before) .pre in (
+    let p = begin (c .before) .pre in (
       read-start _ _ _ _ _ _ _ _ _ (c .start .ensures) (p .3) (p .4) row-none (p .7) (p .8) (p .9),
       omega arith,
       under-none _ _ _ (omega arith),
@@ -103,7 +102,7 @@ starts-run-requires c κs = omega arith
 run-end-requires : tie.Need-run-end-requires Inv-loop μ-loop
 run-end-requires c κs =
     let t = run-turn c in
-    let p = begin t .pre in
+    let p = begin₁ t .pre in
     let i = t .before .loop .inv in
     (p .0, p .1, t .loop-test .taken, i .1, i .2)
 
@@ -123,7 +122,7 @@ fits-requires c κs =
     let e = c .before .row-of .ensures in
     let r = row-sized (getD (l .table .entries) 0 0) in
     let f = l .inv .0 .ready .rest .fit in (
-      omega (arith, c .before .before .run-end .ensures .1, begin t .pre .0),
+      omega (arith, c .before .before .run-end .ensures .1, begin₁ t .pre .0),
       omega (arith, e, r .some),
       omega (arith, e, r .small),
       omega (arith, c .room .ensures .0, f .narrow),
@@ -151,13 +150,13 @@ add-x : tie.Need-add-x Inv-loop μ-loop
 add-x c =
     let g = c .before .before .before .before in
     let e = g .before .before .run-end .ensures in
-    omega (arith, c .before .before .before .fits2 .ensures .0, e .1, begin (run-turn (run g)) .pre .0)
+    omega (arith, c .before .before .before .fits2 .ensures .0, e .1, begin₁ (run-turn (run g)) .pre .0)
 
 white-requires : tie.Need-white-requires Inv-loop μ-loop
 white-requires c κs =
     let g = c .before .before .before .before in
     let e = g .before .before .run-end .ensures in
-    let p = begin (run-turn (run g)) .pre in
+    let p = begin₁ (run-turn (run g)) .pre in
     (p .1, omega (arith, c .before .before .before .fits2 .ensures .0, e .0, e .1, p .0))
 
 loop-less : tie.Need-loop-less Inv-loop μ-loop
@@ -170,7 +169,7 @@ loop-again c =
     let g = c .before .before .before .before .before in
     let r = run g in
     let t = run-turn r in
-    let a = begin t .args in
+    let a = begin₁ t .args in
     let s = a .start in
     let l = t .before .loop in
     let u = g .before .before .run-end in
@@ -182,7 +181,7 @@ loop-again c =
     rw (c .before .before .still .ensures, c .before .still2 .ensures, c .white2 .ensures) (
       read-run (a .width) (pelsTo (a .above .now) (a .width)) (s .table .entries) (s .coder) (a .code .now)
           (s .at) (s .good) (s .view) (l .row) (l .table .entries) (l .at) (l .good) (so .0)
-          (pels-bits (a .above .now) (a .width)) (begin t .pre .0) (l .coder) (l .window) (l .view) (l .x) (u .result)
+          (pels-bits (a .above .now) (a .width)) (begin₁ t .pre .0) (l .coder) (l .window) (l .view) (l .x) (u .result)
           (n .result) _ (l .inv .0) (so .1) (e .1) (e .2) (e .0) (n .ensures .0)
           (ap (λ (z : ℕ). n .result * z) (q .ensures)) (omega (arith, n .ensures .1, m .0))
           (told-so _ _ _ _ _ (n .ensures .1) (m .1)),
@@ -197,7 +196,7 @@ read-pel-requires : tie.Need-read-pel-requires Inv-loop μ-loop
 read-pel-requires c κs =
     let t = turn (c .before .before .before) in
     let i = t .before .loop .inv .0 in
-    let p = begin t .pre in
+    let p = begin₁ t .pre in
     (i .ready, i .lawful _, omega (arith, i .count, t .loop-test .taken, p .0, p .5), i .within, i .near, i .small)
 
 element-write-table : tie.Need-element-write-table Inv-loop μ-loop
@@ -207,7 +206,7 @@ match-two-requires : tie.Need-match-two-requires Inv-loop μ-loop
 match-two-requires c κs =
     let t = pel-turn (c .before) in
     let i = t .before .loop .inv .0 in
-    let p = begin t .pre in
+    let p = begin₁ t .pre in
     let n = told (c .before) .read-pel .ensures .pelled .few in
     (n, omega (arith, i .place, i .few, t .loop-test .taken, n, p .0, p .6))
 
@@ -216,13 +215,13 @@ add-at c =
     let v = c .before .before .before in
     let t = pel-turn v in
     let i = t .before .loop .inv .0 in
-    let p = begin t .pre in
+    let p = begin₁ t .pre in
     omega (arith, i .place, i .few, i .passed, p .0, p .6, told v .read-pel .ensures .pelled .few)
 
 slide-requires : tie.Need-slide-requires Inv-loop μ-loop
 slide-requires c κs =
     let t = pel-turn (c .before) in
-    let p = begin t .pre in
+    let p = begin₁ t .pre in
     let w = edge t in (
       p .1,
       omega (arith, t .loop-test .taken, p .0),
@@ -232,7 +231,7 @@ slide-requires c κs =
     )
 
 array-read-row : tie.Need-array-read-row Inv-loop μ-loop
-array-read-row c = let t = pel-turn (c .before .before) in omega (arith, t .loop-test .taken, begin t .pre .0)
+array-read-row c = let t = pel-turn (c .before .before) in omega (arith, t .loop-test .taken, begin₁ t .pre .0)
 
 pel-in-byte-requires : tie.Need-pel-in-byte-requires Inv-loop μ-loop
 pel-in-byte-requires c κs = told-bit _ _ _ _ _ (told (c .before .before) .read-pel .ensures)
@@ -244,15 +243,15 @@ add-row c =
     let l = t .before .loop in
     let r = told v .read-pel in
     let h = read-room _ _ _ _ _ _ _ _ (l .row) (l .table .entries) (l .coder) (l .window) (l .view) (l .at) (l .good)
-    (l .x) (r .result .p) (l .inv .0) (omega (arith, t .loop-test .taken, begin t .pre .0))
+    (l .x) (r .result .p) (l .inv .0) (omega (arith, t .loop-test .taken, begin₁ t .pre .0))
     (told-bit _ _ _ _ _ (r .ensures)) in
     omega (arith, c .pel-in-byte .ensures .0, h)
 
 array-write-row : tie.Need-array-write-row Inv-loop μ-loop
-array-write-row c = let t = pel-turn (c .before .before .before) in omega (arith, t .loop-test .taken, begin t .pre .0)
+array-write-row c = let t = pel-turn (c .before .before .before) in omega (arith, t .loop-test .taken, begin₁ t .pre .0)
 
 add-x-2 : tie.Need-add-x-2 Inv-loop μ-loop
-add-x-2 c = let t = pel-turn (c .before .before .before) in omega (arith, t .loop-test .taken, begin t .pre .0)
+add-x-2 c = let t = pel-turn (c .before .before .before) in omega (arith, t .loop-test .taken, begin₁ t .pre .0)
 
 loop-less-2 : tie.Need-loop-less-2 Inv-loop μ-loop
 loop-less-2 c = omega (arith, pel-turn (c .before .before .before) .loop-test .taken)
@@ -261,7 +260,7 @@ loop-again-2 : tie.Need-loop-again-2 Inv-loop μ-loop
 loop-again-2 c =
     let d = c .before .before .before in
     let t = pel-turn d in
-    let a = begin t .args in
+    let a = begin₁ t .args in
     let l = t .before .loop in
     let r = told d .read-pel in
     let v = r .result .pel in
@@ -286,7 +285,7 @@ loop-again-2 c =
     rw add-one (
       read-turn (a .width) above (a .start .table .entries) (a .start .coder) (a .code .now) (a .start .at)
           (a .start .good) (a .start .view) (l .row) (l .table .entries) (l .coder) (l .window) (l .view)
-          (l .at) (l .good) (l .x) (l .inv .0) (t .loop-test .taken) (begin t .pre .0)
+          (l .at) (l .good) (l .x) (l .inv .0) (t .loop-test .taken) (begin₁ t .pre .0)
           (pels-bits (a .above .now) (a .width)) (r .result) cx (r .result .p) (y .result) (j .table .entries)
           (s .result) (j .at) (j .good) (put .0) (slid-context _ _ _ _ (l .inv .0 .slid)) (r .ensures)
           (r .ensures .told) (y .ensures .0) (s .ensures .0) (s .ensures .1) (put .1) (put .2),
@@ -297,7 +296,7 @@ loop-again-2 c =
 returns : tie.Need-returns Inv-loop μ-loop
 returns c =
     let l = c .before .loop in
-    line-read _ _ _ _ (copied (c .before .before .before) .pre .2) _ _ _
+    line-read _ _ _ _ (begin (c .before .before .before) .pre .2) _ _ _
     (omega (arith, l .inv .0 .passed, c .loop-test .left)) (l .inv .0)
 
 pub read-row-spec : {M : Type 1} → statement M

@@ -30,13 +30,12 @@ abbrev μ-loop : tie.MeasureT-loop
 μ-loop row above width out₀ coder₀ table₀ at₀ window₀ end₀ x₀ out coder table at window end x = width - x
 
 -- ---- the stations of a row: each is a place passed on the way, seen from a later one
--- the row's own copies are made
-abbrev copied : tie.After-table Inv-loop μ-loop → tie.Start Inv-loop μ-loop
-copied c = c .before .before .before .before .before
+-- the row begins, seen from where its own copies are made, and from a turn
+abbrev begin : tie.After-table Inv-loop μ-loop → tie.Start Inv-loop μ-loop
+begin c = c .before .before .before .before .before
 
--- the row begins, seen from a turn
-abbrev begin : tie.In-loop Inv-loop μ-loop → tie.Start Inv-loop μ-loop
-begin c = copied (c .before .before .before)
+abbrev begin₁ : tie.In-loop Inv-loop μ-loop → tie.Start Inv-loop μ-loop
+begin₁ c = begin (c .before .before .before)
 
 -- the pel is known, and before it the turn begins, seen from where context 0 is looked at
 abbrev known : tie.After-white Inv-loop μ-loop → tie.After-pel-at Inv-loop μ-loop
@@ -63,7 +62,7 @@ pel-turn c = turn (looked c)
 -- ---- what is known in a turn
 edge : (c : tie.In-loop Inv-loop μ-loop) → let w = c .before .loop .window in (w .above < 32) × (w .this < 4)
 edge c =
-    let a = begin c .args in
+    let a = begin₁ c .args in
     row-window _ _ _ _ _ _ _ _ _ _ _ _ _ (pels-bits (a .above .now) (a .width)) (c .before .loop .inv .0)
 
 -- ---- the answers
@@ -72,7 +71,7 @@ start-requires c κs = omega arith
 
 loop-holds : tie.Need-loop-holds Inv-loop μ-loop
 loop-holds c =
-    let p = copied (c .before) .pre in
+    let p = begin (c .before) .pre in
     (row-start _ _ _ _ _ _ _ _ (c .start .ensures) (p .4) (p .5), clear-none _ _ _ _ _ (omega arith) (omega arith))
 
 pel-at-requires : tie.Need-pel-at-requires Inv-loop μ-loop
@@ -93,7 +92,7 @@ starts-run-requires c κs = c .before .before .before .pel-at .ensures .1
 run-end-requires : tie.Need-run-end-requires Inv-loop μ-loop
 run-end-requires c κs =
     let t = run-turn c in
-    let p = begin t .pre in
+    let p = begin₁ t .pre in
     (p .0, p .1, p .2, t .loop-test .taken, t .before .loop .inv .1)
 
 row-of-requires : tie.Need-row-of-requires Inv-loop μ-loop
@@ -112,7 +111,7 @@ fits-requires c κs =
     let e = c .before .row-of .ensures in
     let r = row-sized (getD (l .table .entries) 0 0) in
     let f = l .inv .0 .ready .rest .fit in (
-      omega (arith, c .before .before .run-end .ensures .1 .within, begin t .pre .0),
+      omega (arith, c .before .before .run-end .ensures .1 .within, begin₁ t .pre .0),
       omega (arith, e, r .some),
       omega (arith, e, r .small),
       omega (arith, f .narrow),
@@ -130,15 +129,15 @@ still-requires c κs =
 
 add-x : tie.Need-add-x Inv-loop μ-loop
 add-x c =
-    let u = run (c .before .before .before) in
-    let e = c .before .before .before .before .before .run-end .ensures in
-    omega (arith, c .before .before .fits2 .ensures .0, e .1 .within, begin (run-turn u) .pre .0)
+    let g = c .before .before .before in
+    let e = g .before .before .run-end .ensures in
+    omega (arith, c .before .before .fits2 .ensures .0, e .1 .within, begin₁ (run-turn (run g)) .pre .0)
 
 white-requires : tie.Need-white-requires Inv-loop μ-loop
 white-requires c κs =
-    let u = run (c .before .before .before) in
-    let e = c .before .before .before .before .before .run-end .ensures in
-    let p = begin (run-turn u) .pre in
+    let g = c .before .before .before in
+    let e = g .before .before .run-end .ensures in
+    let p = begin₁ (run-turn (run g)) .pre in
     (p .2, omega (arith, c .before .before .fits2 .ensures .0, e .0, e .1 .within, p .0))
 
 loop-less : tie.Need-loop-less Inv-loop μ-loop
@@ -151,7 +150,7 @@ loop-again c =
     let g = c .before .before .before .before in
     let r = run g in
     let t = run-turn r in
-    let a = begin t .args in
+    let a = begin₁ t .args in
     let l = t .before .loop in
     let u = g .before .before .run-end in
     let q = g .before .row-of in
@@ -172,7 +171,7 @@ put-pel-requires : tie.Need-put-pel-requires Inv-loop μ-loop
 put-pel-requires c κs =
     let t = turn (c .before .before .before) in
     let i = t .before .loop .inv .0 in
-    let p = begin t .pre in
+    let p = begin₁ t .pre in
     (i .ready, i .lawful _, omega (arith, i .count, t .loop-test .taken, p .6, p .0))
 
 element-write-table : tie.Need-element-write-table Inv-loop μ-loop
@@ -182,19 +181,19 @@ put-two-requires : tie.Need-put-two-requires Inv-loop μ-loop
 put-two-requires c κs =
     let t = pel-turn (c .before .before) in
     let i = t .before .loop .inv .0 in
-    let p = begin t .pre in
+    let p = begin₁ t .pre in
     let n = c .before .before .before .put-pel .ensures .few in
     (n, omega (arith, i .place, i .few, t .loop-test .taken, n, p .0, p .7))
 
 slide-requires : tie.Need-slide-requires Inv-loop μ-loop
 slide-requires c κs =
     let t = pel-turn (c .before) in
-    let p = begin t .pre in
+    let p = begin₁ t .pre in
     let w = edge t in
     (p .2, omega (arith, t .loop-test .taken, p .0), known (looked (c .before)) .pel-at .ensures .1, w .0, w .1)
 
 add-x-2 : tie.Need-add-x-2 Inv-loop μ-loop
-add-x-2 c = let t = pel-turn (c .before .before) in omega (arith, t .loop-test .taken, begin t .pre .0)
+add-x-2 c = let t = pel-turn (c .before .before) in omega (arith, t .loop-test .taken, begin₁ t .pre .0)
 
 loop-less-2 : tie.Need-loop-less-2 Inv-loop μ-loop
 loop-less-2 c = omega (arith, pel-turn (c .before .before) .loop-test .taken)
@@ -202,7 +201,7 @@ loop-less-2 c = omega (arith, pel-turn (c .before .before) .loop-test .taken)
 loop-again-2 : tie.Need-loop-again-2 Inv-loop μ-loop
 loop-again-2 c =
     let t = pel-turn (c .before .before) in
-    let a = begin t .args in
+    let a = begin₁ t .args in
     let l = t .before .loop in
     let p = known (looked (c .before .before)) .pel-at in
     let v = c .before .before .before .put-pel in
