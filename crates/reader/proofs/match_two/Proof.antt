@@ -8,60 +8,51 @@ use Rattle.reader.specs.ReadRow.{matches}
 use Rattle.reader.proofs.ReadRow.{and-true}
 use Rattle.reader.proofs.match_two.Statement.{statement}
 use Rattle.reader.proofs.match_two.Tie as tie
+use mathlib.Core.Bool.{true}
 
--- src/lib.rt:188:9
+-- ---- all begins, seen from where the first byte is compared
+abbrev begin : tie.After-match-one → tie.Start
+begin c = c .before .before .before .before
+
+-- ---- all were the code's so far
+good : (c : tie.After-match-one) → begin c .args .good ≡ true
+good c = not-false (begin c .args .good) (c .before .if2 .left)
+
+-- ---- the answers
 returns : tie.Need-returns
 unfolding matches
 returns c = rw (c .if1 .taken) (sym (and-true _))
 
--- src/lib.rt:191:9
 returns-2 : tie.Need-returns-2
 returns-2 c = rw (not-true (c .before .before .before .args .good) (c .if2 .taken)) refl
 
--- src/lib.rt:193:9
 match-one-requires : tie.Need-match-one-requires
 match-one-requires c κs = search needs
 
--- src/lib.rt:195:9
 returns-3 : tie.Need-returns-3
 unfolding matches
-returns-3 c =
-    rw (not-false (c .before .before .before .before .before .args .good) (c .before .before .if2 .left), c .if3 .taken)
-    (c .before .match-one .ensures ∙ sym (and-true _))
+returns-3 c = rw (good (c .before), c .if3 .taken) (c .before .match-one .ensures ∙ sym (and-true _))
 
--- src/lib.rt:198:32
 add-match-one : tie.Need-add-match-one
 add-match-one c = search needs
 
--- src/lib.rt:198:9
 match-one-requires-2 : tie.Need-match-one-requires-2
 match-one-requires-2 c κs = search needs
 
--- src/lib.rt:198:9
 returns-4 : tie.Need-returns-4
 unfolding matches
 returns-4 c =
-    let n : c .before .before .before .before .before .before .before .args .n ≡ 2 = omega arith in
-    rw (
-      not-false (c .before .before .before .before .before .before .before .args .good) (c .before .before .before .before .if2 .left),
-      n,
-      ←
-          c .before .before .before .match-one .ensures,
-      c .before .if4 .taken,
-    ) (c .match-one2 .ensures ∙ rw add-one (sym (and-true _)))
+    let m = c .before .before .before in
+    let n : begin m .args .n ≡ 2 = omega arith in
+    rw (good m, n, ← m .match-one .ensures, c .before .if4 .taken)
+    (c .match-one2 .ensures ∙ rw add-one (sym (and-true _)))
 
--- src/lib.rt:183:1
 returns-5 : tie.Need-returns-5
 unfolding matches
 returns-5 c =
-    let n : c .before .before .before .before .before .before .args .n ≡ 2 = omega arith in
-    rw (
-      not-false (c .before .before .before .before .before .before .args .good) (c .before .before .before .if2 .left),
-      n,
-      ←
-          c .before .before .match-one .ensures,
-      c .if4 .left,
-    ) refl
+    let m = c .before .before in
+    let n : begin m .args .n ≡ 2 = omega arith in
+    rw (good m, n, ← m .match-one .ensures, c .if4 .left) refl
 
 pub match-two-spec : {M : Type 1} → statement M
 match-two-spec =

@@ -1,5 +1,5 @@
--- A row is read as the laws' reader reads it, and compared as it goes: the loop's invariant is `RowRead`, and that a run reaches as far as it is
--- known to. Assumes nothing.
+-- A row is read as the laws' reader reads it, and compared as it goes: the loop's invariant is `RowRead`, and that a
+-- run reaches as far as it is known to. Assumes nothing.
 use mathlib.Core.Path.{_≡_, sym, ap, _∙_, subst}
 use mathlib.Core.Logic.{⊎-elim}
 use mathlib.Core.Bool.{_&&_}
@@ -26,37 +26,75 @@ use Rattle.reader.proofs.Runs.{told-so, match-none, read-run}
 use Rattle.reader.proofs.Lines.{line-read}
 use Rattle.reader.proofs.read_row.Statement.{statement}
 use Rattle.reader.proofs.read_row.Tie as tie
+use Prim.Native.Nat.{_<_}
 
 abbrev Inv-loop : tie.InvT-loop
 Inv-loop code above width coder₀ table₀ at₀ good₀ view₀ window₀ row₀ end₀ x₀ coder table at good view window row end x =
-    RowRead width (pelsTo above width) (table₀ .entries) coder₀ code at₀ good₀ view₀ row (table .entries) coder window view at good x
+    RowRead width (pelsTo above width) (table₀ .entries) coder₀ code at₀ good₀ view₀
+    row (table .entries) coder window view at good x
     × (end ≤ width) × Under (pelsTo above width) x end
 
 abbrev μ-loop : tie.MeasureT-loop
 μ-loop code above width coder₀ table₀ at₀ good₀ view₀ window₀ row₀ end₀ x₀ coder table at good view window row end x =
     width - x
 
+-- ---- the stations of a row: each is a place passed on the way, seen from a later one
+-- the row begins, seen from where its own copies are made, and from a turn
+abbrev begin : tie.After-view Inv-loop μ-loop → tie.Start Inv-loop μ-loop
+begin c = c .before .before .before .before .before
+
+abbrev begin₁ : tie.In-loop Inv-loop μ-loop → tie.Start Inv-loop μ-loop
+begin₁ c = begin (c .before .before .before)
+
+-- the turn begins, seen from where context 0 is looked at
+abbrev turn : tie.After-white Inv-loop μ-loop → tie.In-loop Inv-loop μ-loop
+turn c = c .before .before .before
+
+-- the pel is told, and before it its entry is known, seen from where it is coded
+abbrev told : tie.After-view2 Inv-loop μ-loop → tie.After-read-pel Inv-loop μ-loop
+told c = c .before .before .before
+
+abbrev entered : tie.After-view2 Inv-loop μ-loop → tie.After-e Inv-loop μ-loop
+entered c = told c .before
+
+-- context 0 is looked at, seen from where one pel is coded
+abbrev looked : tie.After-view2 Inv-loop μ-loop → tie.After-white Inv-loop μ-loop
+looked c = entered c .before .before .before
+
+-- a white run may begin, seen from where its room is known
+abbrev run : tie.After-room Inv-loop μ-loop → tie.Then1 Inv-loop μ-loop
+run c = c .before .before .before
+
+-- the turns of a white run and of one pel
+abbrev run-turn : tie.Then1 Inv-loop μ-loop → tie.In-loop Inv-loop μ-loop
+run-turn c = turn (c .before .before)
+
+abbrev pel-turn : tie.After-view2 Inv-loop μ-loop → tie.In-loop Inv-loop μ-loop
+pel-turn c = turn (looked c)
+
+-- ---- what is known in a turn
+edge : (c : tie.In-loop Inv-loop μ-loop) → let w = c .before .loop .window in (w .above < 32) × (w .this < 4)
+edge c =
+    let a = begin₁ c .args in
+    read-window _ _ _ _ _ _ _ _ _ _ _ _ _ _ _ _ (pels-bits (a .above .now) (a .width)) (c .before .loop .inv .0)
+
+-- ---- the answers
 start-requires : tie.Need-start-requires Inv-loop μ-loop
-start-requires c κs = c .before .before .before .before .before .pre .1
+start-requires c κs = begin c .pre .1
 
 loop-holds : tie.Need-loop-holds Inv-loop μ-loop
 loop-holds c =
-    let p = c .before .before .before .before .before .before .pre in
-    (read-start _ _ _ _ _ _ _ _ _ (c .start .ensures) (p .3) (p .4) row-none (p .7) (p .8) (p .9), omega arith, under-none _ _ _ (omega arith))
+    let p = begin (c .before) .pre in (
+      read-start _ _ _ _ _ _ _ _ _ (c .start .ensures) (p .3) (p .4) row-none (p .7) (p .8) (p .9),
+      omega arith,
+      under-none _ _ _ (omega arith),
+    )
 
 mul-cx : tie.Need-mul-cx Inv-loop μ-loop
-mul-cx c =
-    let a = c .before .before .before .before .before .before .before .before .before .args in
-    let l = c .before .before .loop in
-    let w = read-window _ _ _ _ _ _ _ _ _ _ _ _ _ _ _ _ (pels-bits (a .above .now) (a .width)) (l .inv .0) in
-    omega arith
+mul-cx c = let w = edge (c .before) in omega arith
 
 add-cx : tie.Need-add-cx Inv-loop μ-loop
-add-cx c =
-    let a = c .before .before .before .before .before .before .before .before .before .before .args in
-    let l = c .before .before .before .loop in
-    let w = read-window _ _ _ _ _ _ _ _ _ _ _ _ _ _ _ _ (pels-bits (a .above .now) (a .width)) (l .inv .0) in
-    omega arith
+add-cx c = let w = edge (c .before .before) in omega arith
 
 element-copy-out-white : tie.Need-element-copy-out-white Inv-loop μ-loop
 element-copy-out-white c = search needs
@@ -66,258 +104,203 @@ starts-run-requires c κs = omega arith
 
 run-end-requires : tie.Need-run-end-requires Inv-loop μ-loop
 run-end-requires c κs =
-    let p = c .before .before .before .before .before .before .before .before .before .before .before .before .before .pre in
-    let l = c .before .before .before .before .before .before .loop in
-    (p .0, p .1, c .before .before .before .before .before .loop-test .taken, l .inv .1, l .inv .2)
+    let t = run-turn c in
+    let p = begin₁ t .pre in
+    let i = t .before .loop .inv in
+    (p .0, p .1, t .loop-test .taken, i .1, i .2)
 
 row-of-requires : tie.Need-row-of-requires Inv-loop μ-loop
-row-of-requires c κs = c .before .before .before .before .before .before .before .loop .inv .0 .lawful 0
+row-of-requires c κs = run-turn (c .before) .before .loop .inv .0 .lawful 0
 
 sub-fits : tie.Need-sub-fits Inv-loop μ-loop
 sub-fits c = c .before .run-end .ensures .0
 
 room-requires : tie.Need-room-requires Inv-loop μ-loop
-room-requires c κs = let l = c .before .before .before .before .before .before .before .before .loop in (l .inv .0 .ready .wide, l .inv .0 .near)
+room-requires c κs = let i = run-turn (c .before .before) .before .loop .inv .0 in (i .ready .wide, i .near)
 
 fits-requires : tie.Need-fits-requires Inv-loop μ-loop
 fits-requires c κs =
-    let l = c .before .before .before .before .before .before .before .before .before .loop in
+    let t = run-turn (run c) in
+    let l = t .before .loop in
     let e = c .before .row-of .ensures in
     let r = row-sized (getD (l .table .entries) 0 0) in
     let f = l .inv .0 .ready .rest .fit in (
-      omega (
-        arith,
-        c .before .before .run-end .ensures .1,
-        c .before .before .before .before .before .before .before .before .before .before
-            .before .before .before .before .before .before .pre .0,
-      ),
+      omega (arith, c .before .before .run-end .ensures .1, begin₁ t .pre .0),
       omega (arith, e, r .some),
       omega (arith, e, r .small),
-      omega
-          (arith, c .room .ensures .0, f .narrow),
+      omega (arith, c .room .ensures .0, f .narrow),
     )
 
 mul-size : tie.Need-mul-size Inv-loop μ-loop
-mul-size c = omega (
-  arith,
-  c .before .fits2 .ensures .1,
-  c .before .before .room .ensures .0,
-  c .before .before .before .before .before .before
-      .before .before .before .before .before .loop .inv .0 .ready .rest .fit .narrow,
-)
+mul-size c =
+    let g = c .before .before in
+    let f = run-turn (run g) .before .loop .inv .0 .ready .rest .fit in
+    omega (arith, c .before .fits2 .ensures .1, g .room .ensures .0, f .narrow)
 
 still-requires : tie.Need-still-requires Inv-loop μ-loop
 still-requires c κs =
-    let f = c .before .before .before .before .before .before .before .before .before .before .before .loop .inv .0 .ready .rest .fit in
-    (omega (arith, c .before .fits2 .ensures .1, c .before .before .room .ensures .0), omega (arith, f .narrow), low-fits _ f)
+    let g = c .before .before in
+    let f = run-turn (run g) .before .loop .inv .0 .ready .rest .fit in
+    (omega (arith, c .before .fits2 .ensures .1, g .room .ensures .0), omega (arith, f .narrow), low-fits _ f)
 
 still-requires-2 : tie.Need-still-requires-2 Inv-loop μ-loop
 still-requires-2 c κs =
-    let l = c .before .before .before .before .before .before .before .before .before .before .before .before .loop in
-    (l .inv .0 .near, told-so _ _ _ _ _ (c .before .before .fits2 .ensures .1) (c .before .before .before .room .ensures .1), l .inv .0 .small)
+    let g = c .before .before .before in
+    let i = run-turn (run g) .before .loop .inv .0 in
+    (i .near, told-so _ _ _ _ _ (c .before .before .fits2 .ensures .1) (g .room .ensures .1), i .small)
 
 add-x : tie.Need-add-x Inv-loop μ-loop
-add-x c = omega (
-  arith,
-  c .before .before .before .fits2 .ensures .0,
-  c .before .before .before .before .before .before .run-end .ensures .1,
-  c
-      .before .before .before .before .before .before .before .before .before .before .before .before .before .before .before .before .before
-      .before .before .before .pre .0,
-)
+add-x c =
+    let g = c .before .before .before .before in
+    let e = g .before .before .run-end .ensures in
+    omega (arith, c .before .before .before .fits2 .ensures .0, e .1, begin₁ (run-turn (run g)) .pre .0)
 
 white-requires : tie.Need-white-requires Inv-loop μ-loop
 white-requires c κs =
-    let p = c .before .before .before .before .before .before .before .before .before .before .before .before .before .before .before .before
-    .before .before .before .before .pre in (
-      p .1,
-      omega (
-        arith,
-        c .before .before .before .fits2 .ensures .0,
-        c .before .before .before .before .before .before .run-end .ensures .0,
-        c
-            .before .before .before .before .before .before .run-end .ensures .1,
-        p .0,
-      ),
-    )
+    let g = c .before .before .before .before in
+    let e = g .before .before .run-end .ensures in
+    let p = begin₁ (run-turn (run g)) .pre in
+    (p .1, omega (arith, c .before .before .before .fits2 .ensures .0, e .0, e .1, p .0))
 
 loop-less : tie.Need-loop-less Inv-loop μ-loop
-loop-less c = omega (
-  arith,
-  c .before .before .before .if2 .taken,
-  c .before .before .before .before .before .before .before .before .before
-      .before .before .before .before .loop-test .taken,
-)
+loop-less c =
+    let t = run-turn (run (c .before .before .before .before .before)) in
+    omega (arith, c .before .before .before .if2 .taken, t .loop-test .taken)
 
 loop-again : tie.Need-loop-again Inv-loop μ-loop
 loop-again c =
-    let a = c .before .before .before .before .before .before .before .before .before .before .before .before .before .before .before .before
-    .before .before .before .before .before .args in
-    let l = c .before .before .before .before .before .before .before .before .before .before .before .before .before .before .loop in
-    let u = c .before .before .before .before .before .before .before .run-end .ensures in
-    let q = c .before .before .before .before .before .before .row-of in
-    let m = c .before .before .before .before .before .room .ensures in
+    let g = c .before .before .before .before .before in
+    let r = run g in
+    let t = run-turn r in
+    let a = begin₁ t .args in
+    let s = a .start in
+    let l = t .before .loop in
+    let u = g .before .before .run-end in
+    let e = u .ensures in
+    let q = g .before .row-of in
+    let m = g .room .ensures in
     let n = c .before .before .before .before .fits2 in
-    let so = c .before .before .before .before .before .before .before .before .before .starts-run .ensures
-    (c .before .before .before .before .before .before .before .before .if1 .taken) in
+    let so = r .before .starts-run .ensures (r .if1 .taken) in
     rw (c .before .before .still .ensures, c .before .still2 .ensures, c .white2 .ensures) (
-      read-run (a .width) (pelsTo (a .above .now) (a .width)) (a .start .table .entries) (a .start .coder) (a .code .now) (a .start .at)
-          (a .start .good) (a .start .view) (l .row) (l .table .entries) (l .at) (l .good) (so .0) (pels-bits (a .above .now) (a .width))
-          (c .before .before .before .before .before .before .before .before .before .before .before .before .before .before .before .before
-          .before .before .before .before .before .pre .0)
-          (l .coder) (l .window) (l .view) (l .x) (c .before .before .before .before .before .before .before .run-end .result) (n .result) _
-          (l .inv .0) (so .1) (u .1) (u .2) (u .0) (n .ensures .0)
-          (ap (λ (z : ℕ). n .result * z) (q .ensures)) (omega (arith, n .ensures .1, m .0)) (told-so _ _ _ _ _ (n .ensures .1) (m .1)),
-      u .1,
-      under-part _ _ _ _ _ (omega arith) (omega arith) (u .2),
+      read-run (a .width) (pelsTo (a .above .now) (a .width)) (s .table .entries) (s .coder) (a .code .now)
+          (s .at) (s .good) (s .view) (l .row) (l .table .entries) (l .at) (l .good) (so .0)
+          (pels-bits (a .above .now) (a .width)) (begin₁ t .pre .0) (l .coder) (l .window) (l .view) (l .x) (u .result)
+          (n .result) _ (l .inv .0) (so .1) (e .1) (e .2) (e .0) (n .ensures .0)
+          (ap (λ (z : ℕ). n .result * z) (q .ensures)) (omega (arith, n .ensures .1, m .0))
+          (told-so _ _ _ _ _ (n .ensures .1) (m .1)),
+      e .1,
+      under-part _ _ _ _ _ (omega arith) (omega arith) (e .2),
     )
 
 element-copy-out-e : tie.Need-element-copy-out-e Inv-loop μ-loop
-element-copy-out-e c =
-    let a = c .before .before .before .before .before .before .before .before .before .before .before .before .before .args in
-    let l = c .before .before .before .before .before .before .loop in
-    let w = read-window _ _ _ _ _ _ _ _ _ _ _ _ _ _ _ _ (pels-bits (a .above .now) (a .width)) (l .inv .0) in
-    omega arith
+element-copy-out-e c = let w = edge (turn (c .before .before)) in omega arith
 
 read-pel-requires : tie.Need-read-pel-requires Inv-loop μ-loop
 read-pel-requires c κs =
-    let l = c .before .before .before .before .before .before .before .loop in
-    let p = c .before .before .before .before .before .before .before .before .before .before .before .before .before .before .pre in
-    let i = l .inv .0 in
-    let t = c .before .before .before .before .before .before .loop-test .taken in
-    (i .ready, i .lawful _, omega (arith, i .count, t, p .0, p .5), i .within, i .near, i .small)
+    let t = turn (c .before .before .before) in
+    let i = t .before .loop .inv .0 in
+    let p = begin₁ t .pre in
+    (i .ready, i .lawful _, omega (arith, i .count, t .loop-test .taken, p .0, p .5), i .within, i .near, i .small)
 
 element-write-table : tie.Need-element-write-table Inv-loop μ-loop
-element-write-table c =
-    let a = c .before .before .before .before .before .before .before .before .before .before .before .before .before .before .before .before
-    .before .before .before .args in
-    let l = c .before .before .before .before .before .before .before .before .before .before .before .before .loop in
-    let w = read-window _ _ _ _ _ _ _ _ _ _ _ _ _ _ _ _ (pels-bits (a .above .now) (a .width)) (l .inv .0) in
-    omega arith
+element-write-table c = let w = edge (pel-turn (c .before)) in omega arith
 
 match-two-requires : tie.Need-match-two-requires Inv-loop μ-loop
 match-two-requires c κs =
-    let i = c .before .before .before .before .before .before .before .before .before .before .before .before .loop .inv .0 in
-    let p = c .before .before .before .before .before .before .before .before .before .before .before .before .before .before .before .before
-    .before .before .before .pre in
-    let t = c .before .before .before .before .before .before .before .before .before .before .before .loop-test .taken in
-    let n = c .before .before .before .before .read-pel .ensures .pelled .few in
-    (n, omega (arith, i .place, i .few, t, n, p .0, p .6))
+    let t = pel-turn (c .before) in
+    let i = t .before .loop .inv .0 in
+    let p = begin₁ t .pre in
+    let n = told (c .before) .read-pel .ensures .pelled .few in
+    (n, omega (arith, i .place, i .few, t .loop-test .taken, n, p .0, p .6))
 
 add-at : tie.Need-add-at Inv-loop μ-loop
 add-at c =
-    let i = c .before .before .before .before .before .before .before .before .before .before .before .before .before .before .loop .inv .0 in
-    let p = c .before .before .before .before .before .before .before .before .before .before .before .before .before .before .before .before
-    .before .before .before .before .before .pre in
-    omega (arith, i .place, i .few, i .passed, p .0, p .6, c .before .before .before .before .before .before .read-pel .ensures .pelled .few)
+    let v = c .before .before .before in
+    let t = pel-turn v in
+    let i = t .before .loop .inv .0 in
+    let p = begin₁ t .pre in
+    omega (arith, i .place, i .few, i .passed, p .0, p .6, told v .read-pel .ensures .pelled .few)
 
 slide-requires : tie.Need-slide-requires Inv-loop μ-loop
 slide-requires c κs =
-    let a = c .before .before .before .before .before .before .before .before .before .before .before .before .before .before .before .before
-    .before .before .before .args in
-    let l = c .before .before .before .before .before .before .before .before .before .before .before .before .loop in
-    let p = c .before .before .before .before .before .before .before .before .before .before .before .before .before .before .before .before
-    .before .before .before .pre in
-    let w = read-window _ _ _ _ _ _ _ _ _ _ _ _ _ _ _ _ (pels-bits (a .above .now) (a .width)) (l .inv .0) in (
+    let t = pel-turn (c .before) in
+    let p = begin₁ t .pre in
+    let w = edge t in (
       p .1,
-      omega (arith, c .before .before .before .before .before .before .before .before .before .before .before .loop-test .taken, p .0),
-      told-bit _ _ _ _ _ (c .before .before .before .before .read-pel .ensures),
+      omega (arith, t .loop-test .taken, p .0),
+      told-bit _ _ _ _ _ (told (c .before) .read-pel .ensures),
       w .0,
       w .1,
     )
 
 array-read-row : tie.Need-array-read-row Inv-loop μ-loop
-array-read-row c = omega (
-  arith,
-  c .before .before .before .before .before .before .before .before .before .before .before
-      .before .loop-test .taken,
-  c .before .before .before .before .before .before .before .before .before .before .before .before .before .before
-      .before .before .before .before .before .before .pre .0,
-)
+array-read-row c = let t = pel-turn (c .before .before) in omega (arith, t .loop-test .taken, begin₁ t .pre .0)
 
 pel-in-byte-requires : tie.Need-pel-in-byte-requires Inv-loop μ-loop
-pel-in-byte-requires c κs = told-bit _ _ _ _ _ (c .before .before .before .before .before .read-pel .ensures)
+pel-in-byte-requires c κs = told-bit _ _ _ _ _ (told (c .before .before) .read-pel .ensures)
 
 add-row : tie.Need-add-row Inv-loop μ-loop
 add-row c =
-    let l = c .before .before .before .before .before .before .before .before .before .before .before .before .before .before .loop in
-    let t = c .before .before .before .before .before .before .read-pel in
-    let h = read-room _ _ _ _ _ _ _ _ (l .row) (l .table .entries) (l .coder) (l .window) (l .view) (l .at) (l .good) (l .x) (t .result .p)
-    (l .inv .0)
-    (omega (
-      arith,
-      c .before .before .before .before .before .before .before .before .before .before .before .before .before .loop-test .taken,
-      c
-          .before .before .before .before .before .before .before .before .before .before .before .before .before .before .before .before .before
-          .before .before .before .before .pre .0,
-    )) (told-bit _ _ _ _ _ (t .ensures)) in
+    let v = c .before .before .before in
+    let t = pel-turn v in
+    let l = t .before .loop in
+    let r = told v .read-pel in
+    let h = read-room _ _ _ _ _ _ _ _ (l .row) (l .table .entries) (l .coder) (l .window) (l .view) (l .at) (l .good)
+    (l .x) (r .result .p) (l .inv .0) (omega (arith, t .loop-test .taken, begin₁ t .pre .0))
+    (told-bit _ _ _ _ _ (r .ensures)) in
     omega (arith, c .pel-in-byte .ensures .0, h)
 
 array-write-row : tie.Need-array-write-row Inv-loop μ-loop
-array-write-row c = omega (
-  arith,
-  c .before .before .before .before .before .before .before .before .before .before .before .before
-      .before .loop-test .taken,
-  c .before .before .before .before .before .before .before .before .before .before .before .before .before .before
-      .before .before .before .before .before .before .before .pre .0,
-)
+array-write-row c = let t = pel-turn (c .before .before .before) in omega (arith, t .loop-test .taken, begin₁ t .pre .0)
 
 add-x-2 : tie.Need-add-x-2 Inv-loop μ-loop
-add-x-2 c = omega (
-  arith,
-  c .before .before .before .before .before .before .before .before .before .before .before .before
-      .before .loop-test .taken,
-  c .before .before .before .before .before .before .before .before .before .before .before .before .before .before
-      .before .before .before .before .before .before .before .pre .0,
-)
+add-x-2 c = let t = pel-turn (c .before .before .before) in omega (arith, t .loop-test .taken, begin₁ t .pre .0)
 
 loop-less-2 : tie.Need-loop-less-2 Inv-loop μ-loop
-loop-less-2 c = omega (
-  arith,
-  c .before .before .before .before .before .before .before .before .before .before .before .before
-      .before .loop-test .taken,
-)
+loop-less-2 c = omega (arith, pel-turn (c .before .before .before) .loop-test .taken)
 
 loop-again-2 : tie.Need-loop-again-2 Inv-loop μ-loop
 loop-again-2 c =
-    let a = c .before .before .before .before .before .before .before .before .before .before .before .before .before .before .before .before
-    .before .before .before .before .before .args in
-    let l = c .before .before .before .before .before .before .before .before .before .before .before .before .before .before .loop in
-    let t = c .before .before .before .before .before .before .read-pel in
-    let v = t .result .pel in
+    let d = c .before .before .before in
+    let t = pel-turn d in
+    let a = begin₁ t .args in
+    let l = t .before .loop in
+    let r = told d .read-pel in
+    let v = r .result .pel in
     let y = c .pel-in-byte in
     let j = c .before .before .if3 in
     let s = c .before .slide in
-    let m = c .before .before .before .before .before .before .before .before .if1 in
+    let m = entered d .before .if1 in
     let above = pelsTo (a .above .now) (a .width) in
     let cx = 4 * l .window .above + l .window .this in
     let put : (j .table .entries ≡ set (l .table .entries) cx (v .entry)) × (j .at ≡ l .at + v .settled)
     × (j .good ≡ (l .good && matches (a .code .now) (l .at) (bytesOf v)))
     = ⊎-elim (λ w. (ap (λ (u : Table). u .entries) (w .3), w .4, w .5 ∙ w .1 .ensures))
-    (λ w. let k = pelled-kept (l .coder) (l .table .entries) [] cx (l .at) _ v (t .ensures .pelled) (w .0 .left) in (
+    (λ w. let k = pelled-kept (l .coder) (l .table .entries) [] cx (l .at) _ v (r .ensures .pelled) (w .0 .left) in (
       ap (λ (u : Table). u .entries) (w .1) ∙ k .0,
       w .2 ∙ k .2,
-      w .3 ∙ match-none (l .coder) _ _ v (a .code .now) (l .at) (l .good) (t .ensures .pelled) (w .0 .left),
+      w .3 ∙ match-none (l .coder) _ _ v (a .code .now) (l .at) (l .good) (r .ensures .pelled) (w .0 .left),
     )) (j .came) in
     let reach : (m .end ≤ a .width) × Under above (l .x) (m .end)
-    = ⊎-elim (λ w. subst (λ (z : ℕ). (z ≤ a .width) × Under above (l .x) z) (sym (w .6)) (w .1 .ensures .1, w .1 .ensures .2))
+    = ⊎-elim
+    (λ w. subst (λ (z : ℕ). (z ≤ a .width) × Under above (l .x) z) (sym (w .6)) (w .1 .ensures .1, w .1 .ensures .2))
     (λ w. subst (λ (z : ℕ). (z ≤ a .width) × Under above (l .x) z) (sym (w .1)) (l .inv .1, l .inv .2)) (m .came) in
     rw add-one (
-      read-turn (a .width) above (a .start .table .entries) (a .start .coder) (a .code .now) (a .start .at) (a .start .good) (a .start .view) (l .row)
-          (l .table .entries) (l .coder) (l .window) (l .view) (l .at) (l .good) (l .x) (l .inv .0)
-          (c .before .before .before .before .before .before .before .before .before .before .before .before .before .loop-test .taken)
-          (c .before .before .before .before .before .before .before .before .before .before .before .before .before .before .before
-          .before .before .before .before .before .before .pre .0)
-          (pels-bits (a .above .now) (a .width)) (t .result) cx (t .result .p) (y .result) (j .table .entries) (s .result) (j .at) (j .good) (put .0)
-          (slid-context _ _ _ _ (l .inv .0 .slid)) (t .ensures) (t .ensures .told) (y .ensures .0) (s .ensures .0) (s .ensures .1) (put .1) (put .2),
+      read-turn (a .width) above (a .start .table .entries) (a .start .coder) (a .code .now) (a .start .at)
+          (a .start .good) (a .start .view) (l .row) (l .table .entries) (l .coder) (l .window) (l .view)
+          (l .at) (l .good) (l .x) (l .inv .0) (t .loop-test .taken) (begin₁ t .pre .0)
+          (pels-bits (a .above .now) (a .width)) (r .result) cx (r .result .p) (y .result) (j .table .entries)
+          (s .result) (j .at) (j .good) (put .0) (slid-context _ _ _ _ (l .inv .0 .slid)) (r .ensures)
+          (r .ensures .told) (y .ensures .0) (s .ensures .0) (s .ensures .1) (put .1) (put .2),
       reach .0,
       under-part _ _ _ _ _ (omega arith) (omega arith) (reach .1),
     )
 
 returns : tie.Need-returns Inv-loop μ-loop
 returns c =
-    line-read _ _ _ _ (c .before .before .before .before .before .before .before .before .pre .2) _ _ _
-    (omega (arith, c .before .loop .inv .0 .passed, c .loop-test .left)) (c .before .loop .inv .0)
+    let l = c .before .loop in
+    line-read _ _ _ _ (begin (c .before .before .before) .pre .2) _ _ _
+    (omega (arith, l .inv .0 .passed, c .loop-test .left)) (l .inv .0)
 
 pub read-row-spec : {M : Type 1} → statement M
 read-row-spec =

@@ -11,6 +11,8 @@ use Rattle.reader.specs.Reads.{BandRead}
 use Rattle.reader.proofs.RowsRead.{reads-start, reads-again, next-room}
 use Rattle.reader.proofs.read_rows.Statement.{statement}
 use Rattle.reader.proofs.read_rows.Tie as tie
+use Prim.Native.Nat.{ℕ, _+_, _*_}
+use mathlib.Core.Path.{subst}
 
 abbrev Inv-loop : tie.InvT-loop
 Inv-loop width rows code out₀ bytes above₀ reading₀ y₀ out above reading y =
@@ -20,45 +22,62 @@ Inv-loop width rows code out₀ bytes above₀ reading₀ y₀ out above reading
 abbrev μ-loop : tie.MeasureT-loop
 μ-loop width rows code out₀ bytes above₀ reading₀ y₀ out above reading y = rows - y
 
--- src/lib.rt:290:9
+-- ---- the stations of the rows: each is a place passed on the way, seen from a later one
+-- the band begins, seen from where a row's bytes are counted
+abbrev begin : tie.After-row-bytes Inv-loop μ-loop → tie.Start Inv-loop μ-loop
+begin c = c .before .before .before
+
+-- a row's bytes are counted, seen from the loop
+abbrev sized : tie.At-loop Inv-loop μ-loop → tie.After-row-bytes Inv-loop μ-loop
+sized c = c .before .before .before
+
+-- the turn begins, seen from where its row is put
+abbrev turn : tie.After-put-row-arg Inv-loop μ-loop → tie.In-loop Inv-loop μ-loop
+turn c = c .before .before .before .before .before
+
+-- ---- what is known in a turn
+room : (c : tie.In-loop Inv-loop μ-loop) → let s = sized (c .before) in let n = s .row-bytes .result in
+    c .before .loop .y * n + n ≤ length (begin s .args .out .now)
+room c =
+    let s = sized (c .before) in
+    let a = begin s .args in
+    next-room (c .before .loop .y) (a .rows) (s .row-bytes .result) (length (a .out .now)) (c .loop-test .taken)
+    (subst (λ (n : ℕ). a .rows * n ≤ length (a .out .now)) (sym (s .row-bytes .ensures)) (begin s .pre .3))
+
+-- ---- the answers
 row-bytes-requires : tie.Need-row-bytes-requires Inv-loop μ-loop
 row-bytes-requires c κs = omega arith
 
--- src/lib.rt:291:9
 start-requires : tie.Need-start-requires Inv-loop μ-loop
 start-requires c κs = tt
 
--- src/lib.rt:292:9
 start-requires-2 : tie.Need-start-requires-2 Inv-loop μ-loop
 start-requires-2 c κs = tt
 
--- src/lib.rt:296:5
 loop-holds : tie.Need-loop-holds Inv-loop μ-loop
 loop-holds c =
-    let q = c .before .before .before .before .before .pre in
+    let s = begin (c .before .before) in
+    let a = s .args in
     let v = c .start2 in
-    let n : length (c .before .before .before .before .before .args .last) ≡ lastBytes = search needs in (
+    let n : length (a .last) ≡ lastBytes = search needs in (
       omega arith,
       refl,
       n,
-      reads-start (c .before .before .before .before .before .args .width)
-          (c .before .before .before .before .before .args .last) (c .before .before .before .before .before .args .code .now)
-          (c .before .before .before .before .before .args .table .entries) (c .before .before .before .before .before .args .out .now) _
-          (c .before .start .ensures) refl (q .4) refl refl (v .ensures .0) (v .ensures .1) (v .ensures .2) (v .ensures .3),
+      reads-start (a .width) (a .last) (a .code .now) (a .table .entries) (a .out .now) _ (c .before .start .ensures)
+          refl (s .pre .4) refl refl (v .ensures .0) (v .ensures .1) (v .ensures .2) (v .ensures .3),
     )
 
--- src/lib.rt:297:35
 slice-aggregate-read-row : tie.Need-slice-aggregate-read-row Inv-loop μ-loop
 slice-aggregate-read-row c = sym (c .before .before .loop .inv .2)
 
--- src/lib.rt:297:13
 read-row-requires : tie.Need-read-row-requires Inv-loop μ-loop
 read-row-requires c κs =
-    let q = c .before .before .before .before .before .before .before .before .pre in
-    let b = c .before .before .loop .inv .3 in
+    let l = c .before .before in
+    let q = begin (sized l) .pre in
+    let b = l .loop .inv .3 in
     let t = c .before .loop-test .taken in (
       q .1,
-      omega (arith, c .before .before .loop .inv .2, q .1),
+      omega (arith, l .loop .inv .2, q .1),
       q .0,
       b .lawful,
       b .ready,
@@ -69,99 +88,51 @@ read-row-requires c κs =
       b .small,
     )
 
--- src/lib.rt:300:29
 mul-put-row : tie.Need-mul-put-row Inv-loop μ-loop
 mul-put-row c =
-    let q = c .before .before .before .before .before .before .before .before .before .before .before .before .pre in
-    let m = c .before .before .before .before .before .before .before .before .before .row-bytes in
-    let z = next-room
-    (c .before .before .before .before .before .before .loop .y)
-    (c .before .before .before .before .before .before .before .before .before .before .before .before .args .rows) (m .result) (length
-    (c .before .before .before .before .before .before .before .before .before .before .before .before .args .out .now))
-    (c .before .before .before .before .before .loop-test .taken) (rw (m .ensures) (q .3)) in omega (
-      arith,
-      mul-le-mul-right {m =
-          c .before .before .before .before .before .before .loop .y} {n = maxRows} (m .result) (omega (
-            arith,
-            c .before .before .before .before .before .loop-test .taken,
-            q .2,
-          )),
-      m .ensures,
-      q .1,
-    )
+    let t = turn c in
+    let s = sized (t .before) in
+    let q = begin s .pre in
+    let m = s .row-bytes in
+    let h : t .before .loop .y ≤ maxRows = omega (arith, t .loop-test .taken, q .2) in
+    omega (arith, mul-le-mul-right (m .result) h, m .ensures, q .1)
 
--- src/lib.rt:300:9
 put-row-requires : tie.Need-put-row-requires Inv-loop μ-loop
 put-row-requires c κs =
-    let q = c .before .before .before .before .before .before .before .before .before .before .before .before .pre in
-    let m = c .before .before .before .before .before .before .before .before .before .row-bytes in
-    let z = next-room
-    (c .before .before .before .before .before .before .loop .y)
-    (c .before .before .before .before .before .before .before .before .before .before .before .before .args .rows) (m .result) (length
-    (c .before .before .before .before .before .before .before .before .before .before .before .before .args .out .now))
-    (c .before .before .before .before .before .loop-test .taken) (rw (m .ensures) (q .3)) in (
-      omega (arith, m .ensures, q .1),
-      omega (
-        arith,
-        z,
-        c .before .before .before .before .before .before .loop .inv .1,
-      ),
-    )
+    let t = turn c in
+    let s = sized (t .before) in
+    (omega (arith, s .row-bytes .ensures, begin s .pre .1), omega (arith, room t, t .before .loop .inv .1))
 
--- src/lib.rt:301:9
 add-y : tie.Need-add-y Inv-loop μ-loop
 add-y c =
-    omega (
-      arith,
-      c .before .before .before .before .before .before .before .before .loop-test .taken,
-      c .before .before .before .before .before .before .before .before .before .before .before .before .before .before .before .pre .2,
-    )
+    let t = turn (c .before .before .before) in
+    omega (arith, t .loop-test .taken, begin (sized (t .before)) .pre .2)
 
--- src/lib.rt:296:5
 loop-less : tie.Need-loop-less Inv-loop μ-loop
-loop-less c = omega (arith, c .before .before .before .before .before .before .before .before .loop-test .taken)
+loop-less c = omega (arith, turn (c .before .before .before) .loop-test .taken)
 
--- src/lib.rt:296:5
 loop-again : tie.Need-loop-again Inv-loop μ-loop
 loop-again c =
-    let q = c .before .before .before .before .before .before .before .before .before .before .before .before .before .before .before .pre in
-    let m = c .before .before .before .before .before .before .before .before .before .before .before .before .row-bytes in
-    let z = next-room
-    (c .before .before .before .before .before .before .before .before .before .loop .y)
-    (c .before .before .before .before .before .before .before .before .before .before .before .before .before .before .before .args .rows)
-    (m .result) (length
-    (c .before .before .before .before .before .before .before .before .before .before .before .before .before .before .before .args .out .now))
-    (c .before .before .before .before .before .before .before .before .loop-test .taken) (rw (m .ensures) (q .3)) in
-    let l = c .before .before .before .before .before .before .before .before .before .loop in
-    let d = c .before .before .before .before .before .before .read-row in
+    let u = c .before .before .before in
+    let t = turn u in
+    let s = sized (t .before) in
+    let a = begin s .args in
+    let q = begin s .pre in
+    let l = t .before .loop in
+    let d = u .before .before .before .read-row in
     let p = c .before .before .put-row in
-    let b = reads-again
-    (c .before .before .before .before .before .before .before .before .before .before .before .before .before .before .before .args .width)
-    (c .before .before .before .before .before .before .before .before .before .before .before .before .before .before .before .args .last)
-    (c .before .before .before .before .before .before .before .before .before .before .before .before .before .before .before .args .code .now)
-    (c .before .before .before .before .before .before .before .before .before .before .before .before .before .before .before .args .table .entries)
-    (c .before .before .before .before .before .before .before .before .before .before .before .before .before .before .before .args .out .now)
-    (l .above) (l .reading) (l .out) (l .y) (l .inv .3) (q .0) (q .1) (d .result) (d .ensures) _
-    (rw (m .ensures) at (p .ensures)) in (
-      omega (arith, c .before .before .before .before .before .before .before .before .loop-test .taken),
-      p .kept .0 ∙ l .inv .1,
-      d .ensures .packed .size,
-      rw add-one b,
-    )
+    let b = reads-again (a .width) (a .last) (a .code .now) (a .table .entries) (a .out .now) (l .above) (l .reading)
+    (l .out) (l .y) (l .inv .3) (q .0) (q .1) (d .result) (d .ensures) _ (rw (s .row-bytes .ensures) at (p .ensures)) in
+    (omega (arith, t .loop-test .taken), p .kept .0 ∙ l .inv .1, d .ensures .packed .size, rw add-one b)
 
--- src/lib.rt:286:1
 same-length : tie.Need-same-length Inv-loop μ-loop
 same-length c = c .before .loop .inv .1
 
--- src/lib.rt:286:1
 returns : tie.Need-returns Inv-loop μ-loop
 returns c =
-    let e : c .before .loop .y ≡ c .before .before .before .before .before .before .before .args .rows = omega (
-      arith,
-      c .before .loop .inv .0,
-      c .loop-test .left,
-    ) in
-    rw (← e) (c .before .loop .inv .3)
+    let l = c .before .loop in
+    let e : l .y ≡ begin (sized (c .before)) .args .rows = omega (arith, l .inv .0, c .loop-test .left) in
+    rw (← e) (l .inv .3)
 
 pub read-rows-spec : {M : Type 1} → statement M
 read-rows-spec =

@@ -1,4 +1,5 @@
--- A row is written as the definition says: the loop's invariant is `RowAt`, and that a run reaches as far as it is known to. Assumes nothing.
+-- A row is written as the definition says: the loop's invariant is `RowAt`, and that a run reaches as far as it is
+-- known to. Assumes nothing.
 use mathlib.Core.Path.{_≡_, sym, ap, _∙_, subst}
 use mathlib.Core.Logic.{⊎-elim}
 use Prim.Native.Nat.{ℕ, _+_, _-_, _*_}
@@ -15,10 +16,12 @@ use Rattle.template.proofs.White.{clear-none, clear-later}
 use Rattle.template.proofs.Sliding.{pels-bits, slid-context}
 use Rattle.estimate.specs.declared.Table.{Table}
 use Rattle.row.specs.Rows.{bytesOf}
-use Rattle.row.proofs.Rows.{RowAt, pelled-kept, row-start, row-again, row-done, row-window, row-length}
+use Rattle.row.proofs.Rows.{RowAt, pelled-kept}
+use Rattle.row.proofs.Rows.{row-start, row-again, row-done, row-window, row-length}
 use Rattle.row.proofs.Runs.{row-run}
 use Rattle.row.proofs.write_row.Statement.{statement}
 use Rattle.row.proofs.write_row.Tie as tie
+use Prim.Native.Nat.{_<_}
 
 abbrev Inv-loop : tie.InvT-loop
 Inv-loop row above width out₀ coder₀ table₀ at₀ window₀ end₀ x₀ out coder table at window end x =
@@ -28,30 +31,59 @@ Inv-loop row above width out₀ coder₀ table₀ at₀ window₀ end₀ x₀ ou
 abbrev μ-loop : tie.MeasureT-loop
 μ-loop row above width out₀ coder₀ table₀ at₀ window₀ end₀ x₀ out coder table at window end x = width - x
 
+-- ---- the stations of a row: each is a place passed on the way, seen from a later one
+-- the row begins, seen from where its own copies are made, and from a turn
+abbrev begin : tie.After-table Inv-loop μ-loop → tie.Start Inv-loop μ-loop
+begin c = c .before .before .before .before .before
+
+abbrev begin₁ : tie.In-loop Inv-loop μ-loop → tie.Start Inv-loop μ-loop
+begin₁ c = begin (c .before .before .before)
+
+-- the pel is known, and before it the turn begins, seen from where context 0 is looked at
+abbrev known : tie.After-white Inv-loop μ-loop → tie.After-pel-at Inv-loop μ-loop
+known c = c .before .before .before
+
+abbrev turn : tie.After-white Inv-loop μ-loop → tie.In-loop Inv-loop μ-loop
+turn c = known c .before
+
+-- context 0 is looked at, seen from where one pel is coded
+abbrev looked : tie.After-coder2 Inv-loop μ-loop → tie.After-white Inv-loop μ-loop
+looked c = c .before .before .before .before .before
+
+-- a white run may begin, seen from where its room is known
+abbrev run : tie.After-struct-known3 Inv-loop μ-loop → tie.Then1 Inv-loop μ-loop
+run c = c .before .before .before
+
+-- the turns of a white run and of one pel
+abbrev run-turn : tie.Then1 Inv-loop μ-loop → tie.In-loop Inv-loop μ-loop
+run-turn c = turn (c .before .before)
+
+abbrev pel-turn : tie.After-coder2 Inv-loop μ-loop → tie.In-loop Inv-loop μ-loop
+pel-turn c = turn (looked c)
+
+-- ---- what is known in a turn
+edge : (c : tie.In-loop Inv-loop μ-loop) → let w = c .before .loop .window in (w .above < 32) × (w .this < 4)
+edge c =
+    let a = begin₁ c .args in
+    row-window _ _ _ _ _ _ _ _ _ _ _ _ _ (pels-bits (a .above .now) (a .width)) (c .before .loop .inv .0)
+
+-- ---- the answers
 start-requires : tie.Need-start-requires Inv-loop μ-loop
 start-requires c κs = omega arith
 
 loop-holds : tie.Need-loop-holds Inv-loop μ-loop
 loop-holds c =
-    let p = c .before .before .before .before .before .before .pre in
+    let p = begin (c .before) .pre in
     (row-start _ _ _ _ _ _ _ _ (c .start .ensures) (p .4) (p .5), clear-none _ _ _ _ _ (omega arith) (omega arith))
 
 pel-at-requires : tie.Need-pel-at-requires Inv-loop μ-loop
 pel-at-requires c κs = omega arith
 
 mul-cx : tie.Need-mul-cx Inv-loop μ-loop
-mul-cx c =
-    let a = c .before .before .before .before .before .before .before .before .before .before .args in
-    let l = c .before .before .before .loop in
-    let w = row-window _ _ _ _ _ _ _ _ _ _ _ _ _ (pels-bits (a .above .now) (a .width)) (l .inv .0) in
-    omega arith
+mul-cx c = let w = edge (c .before .before) in omega arith
 
 add-cx : tie.Need-add-cx Inv-loop μ-loop
-add-cx c =
-    let a = c .before .before .before .before .before .before .before .before .before .before .before .args in
-    let l = c .before .before .before .before .loop in
-    let w = row-window _ _ _ _ _ _ _ _ _ _ _ _ _ (pels-bits (a .above .now) (a .width)) (l .inv .0) in
-    omega arith
+add-cx c = let w = edge (c .before .before .before) in omega arith
 
 element-copy-out-white : tie.Need-element-copy-out-white Inv-loop μ-loop
 element-copy-out-white c = search needs
@@ -61,199 +93,141 @@ starts-run-requires c κs = c .before .before .before .pel-at .ensures .1
 
 run-end-requires : tie.Need-run-end-requires Inv-loop μ-loop
 run-end-requires c κs =
-    let p = c .before .before .before .before .before .before .before .before .before .before .before .before .before .before .pre in (
-      p .0,
-      p .1,
-      p .2,
-      c .before .before .before .before .before .before .loop-test .taken,
-      c .before .before .before .before .before .before
-          .before .loop .inv .1,
-    )
+    let t = run-turn c in
+    let p = begin₁ t .pre in
+    (p .0, p .1, p .2, t .loop-test .taken, t .before .loop .inv .1)
 
 row-of-requires : tie.Need-row-of-requires Inv-loop μ-loop
-row-of-requires c κs = c .before .before .before .before .before .before .before .before .loop .inv .0 .lawful 0
+row-of-requires c κs = run-turn (c .before) .before .loop .inv .0 .lawful 0
 
 sub-fits : tie.Need-sub-fits Inv-loop μ-loop
 sub-fits c = c .before .run-end .ensures .0
 
 sub-fits-2 : tie.Need-sub-fits-2 Inv-loop μ-loop
-sub-fits-2 c = c .before .before .before .before .before .before .before .before .before .before .loop .inv .0 .ready .wide
+sub-fits-2 c = run-turn (run c) .before .loop .inv .0 .ready .wide
 
 fits-requires : tie.Need-fits-requires Inv-loop μ-loop
 fits-requires c κs =
-    let l = c .before .before .before .before .before .before .before .before .before .before .loop in
+    let t = run-turn (run c) in
+    let l = t .before .loop in
     let e = c .before .row-of .ensures in
     let r = row-sized (getD (l .table .entries) 0 0) in
     let f = l .inv .0 .ready .rest .fit in (
-      omega (
-        arith,
-        c .before .before .run-end .ensures .1 .within,
-        c .before .before .before .before .before .before .before .before .before
-            .before .before .before .before .before .before .before .before .pre .0,
-      ),
+      omega (arith, c .before .before .run-end .ensures .1 .within, begin₁ t .pre .0),
       omega (arith, e, r .some),
       omega (arith, e, r .small),
-      omega
-          (arith, f .narrow),
+      omega (arith, f .narrow),
     )
 
 mul-size : tie.Need-mul-size Inv-loop μ-loop
-mul-size c = omega (
-  arith,
-  c .before .fits2 .ensures .1,
-  c .before .before .before .before .before .before .before .before .before .before .before
-      .before .loop .inv .0 .ready .rest .fit .narrow,
-)
+mul-size c =
+    let f = run-turn (run (c .before .before)) .before .loop .inv .0 .ready .rest .fit in
+    omega (arith, c .before .fits2 .ensures .1, f .narrow)
 
 still-requires : tie.Need-still-requires Inv-loop μ-loop
 still-requires c κs =
-    let f = c .before .before .before .before .before .before .before .before .before .before .before .before .loop .inv .0 .ready .rest .fit in
+    let f = run-turn (run (c .before .before)) .before .loop .inv .0 .ready .rest .fit in
     (omega (arith, c .before .fits2 .ensures .1), omega (arith, f .narrow), low-fits _ f)
 
 add-x : tie.Need-add-x Inv-loop μ-loop
-add-x c = omega (
-  arith,
-  c .before .before .fits2 .ensures .0,
-  c .before .before .before .before .before .run-end .ensures .1 .within,
-  c .before
-      .before .before .before .before .before .before .before .before .before .before .before .before .before .before .before .before .before
-      .before .before .pre .0,
-)
+add-x c =
+    let g = c .before .before .before in
+    let e = g .before .before .run-end .ensures in
+    omega (arith, c .before .before .fits2 .ensures .0, e .1 .within, begin₁ (run-turn (run g)) .pre .0)
 
 white-requires : tie.Need-white-requires Inv-loop μ-loop
 white-requires c κs =
-    let p = c .before .before .before .before .before .before .before .before .before .before .before .before .before .before .before .before
-    .before .before .before .before .pre in (
-      p .2,
-      omega (
-        arith,
-        c .before .before .fits2 .ensures .0,
-        c .before .before .before .before .before .run-end .ensures .0,
-        c .before .before
-            .before .before .before .run-end .ensures .1 .within,
-        p .0,
-      ),
-    )
+    let g = c .before .before .before in
+    let e = g .before .before .run-end .ensures in
+    let p = begin₁ (run-turn (run g)) .pre in
+    (p .2, omega (arith, c .before .before .fits2 .ensures .0, e .0, e .1 .within, p .0))
 
 loop-less : tie.Need-loop-less Inv-loop μ-loop
-loop-less c = omega (
-  arith,
-  c .before .before .if2 .taken,
-  c .before .before .before .before .before .before .before .before .before .before
-      .before .before .before .loop-test .taken,
-)
+loop-less c =
+    let t = run-turn (run (c .before .before .before .before)) in
+    omega (arith, c .before .before .if2 .taken, t .loop-test .taken)
 
 loop-again : tie.Need-loop-again Inv-loop μ-loop
 loop-again c =
-    let a = c .before .before .before .before .before .before .before .before .before .before .before .before .before .before .before .before
-    .before .before .before .before .before .args in
-    let l = c .before .before .before .before .before .before .before .before .before .before .before .before .before .before .loop in
-    let s = c .before .before .before .before .before .before .before .before .starts-run in
-    let u = c .before .before .before .before .before .before .run-end in
-    let q = c .before .before .before .before .before .row-of in
+    let g = c .before .before .before .before in
+    let r = run g in
+    let t = run-turn r in
+    let a = begin₁ t .args in
+    let l = t .before .loop in
+    let u = g .before .before .run-end in
+    let q = g .before .row-of in
     let n = c .before .before .before .fits2 in
-    let so = s .ensures (c .before .before .before .before .before .before .before .if1 .taken) in
+    let so = r .before .starts-run .ensures (r .if1 .taken) in
     rw (c .before .still .ensures, c .white2 .ensures) (
       row-run (a .width) (pelsTo (a .above .now) (a .width)) (a .row .now) _ _ _ _ (l .table .entries) _ _ (so .0)
-          (pels-bits (a .above .now) (a .width))
-          (l .coder) (l .window) (l .x) (u .result) (n .result) _ (l .inv .0) (so .1) (u .ensures .1) (u .ensures .0) (n .ensures .0)
+          (pels-bits (a .above .now) (a .width)) (l .coder) (l .window) (l .x) (u .result) (n .result) _
+          (l .inv .0) (so .1) (u .ensures .1) (u .ensures .0) (n .ensures .0)
           (ap (λ (z : ℕ). n .result * z) (q .ensures)) (omega (arith, n .ensures .1, l .inv .0 .ready .wide)),
       clear-later _ _ _ _ _ _ (omega arith) (u .ensures .1),
     )
 
 element-copy-out-e : tie.Need-element-copy-out-e Inv-loop μ-loop
-element-copy-out-e c =
-    let a = c .before .before .before .before .before .before .before .before .before .before .before .before .before .before .args in
-    let l = c .before .before .before .before .before .before .before .loop in
-    let w = row-window _ _ _ _ _ _ _ _ _ _ _ _ _ (pels-bits (a .above .now) (a .width)) (l .inv .0) in
-    omega arith
+element-copy-out-e c = let w = edge (turn (c .before .before)) in omega arith
 
 put-pel-requires : tie.Need-put-pel-requires Inv-loop μ-loop
 put-pel-requires c κs =
-    let l = c .before .before .before .before .before .before .before .before .loop in (
-      l .inv .0 .ready,
-      l .inv .0 .lawful _,
-      omega (
-        arith,
-        l .inv .0 .count,
-        c .before .before .before .before .before .before .before .loop-test .taken,
-        c .before .before .before .before .before .before .before .before .before .before .before
-            .before .before .before .before .pre .6,
-        c .before .before .before .before .before .before .before .before .before .before .before
-            .before .before .before .before .pre .0,
-      ),
-    )
+    let t = turn (c .before .before .before) in
+    let i = t .before .loop .inv .0 in
+    let p = begin₁ t .pre in
+    (i .ready, i .lawful _, omega (arith, i .count, t .loop-test .taken, p .6, p .0))
 
 element-write-table : tie.Need-element-write-table Inv-loop μ-loop
-element-write-table c =
-    let a = c .before .before .before .before .before .before .before .before .before .before .before .before .before .before .before .before
-    .before .before .args in
-    let l = c .before .before .before .before .before .before .before .before .before .before .before .loop in
-    let w = row-window _ _ _ _ _ _ _ _ _ _ _ _ _ (pels-bits (a .above .now) (a .width)) (l .inv .0) in
-    omega arith
+element-write-table c = let w = edge (pel-turn (c .before)) in omega arith
 
 put-two-requires : tie.Need-put-two-requires Inv-loop μ-loop
 put-two-requires c κs =
-    let l = c .before .before .before .before .before .before .before .before .before .before .before .before .loop in
-    let p = c .before .before .before .before .before .before .before .before .before .before .before .before .before .before .before .before
-    .before .before .before .pre in
-    let t = c .before .before .before .before .before .before .before .before .before .before .before .loop-test .taken in
+    let t = pel-turn (c .before .before) in
+    let i = t .before .loop .inv .0 in
+    let p = begin₁ t .pre in
     let n = c .before .before .before .put-pel .ensures .few in
-    (n, omega (arith, l .inv .0 .place, l .inv .0 .few, t, n, p .0, p .7))
+    (n, omega (arith, i .place, i .few, t .loop-test .taken, n, p .0, p .7))
 
 slide-requires : tie.Need-slide-requires Inv-loop μ-loop
 slide-requires c κs =
-    let a = c .before .before .before .before .before .before .before .before .before .before .before .before .before .before .before .before
-    .before .before .args in
-    let l = c .before .before .before .before .before .before .before .before .before .before .before .loop in
-    let p = c .before .before .before .before .before .before .before .before .before .before .before .before .before .before .before .before
-    .before .before .pre in
-    let w = row-window _ _ _ _ _ _ _ _ _ _ _ _ _ (pels-bits (a .above .now) (a .width)) (l .inv .0) in (
-      p .2,
-      omega (arith, c .before .before .before .before .before .before .before .before .before .before .loop-test .taken, p .0),
-      c .before
-          .before .before .before .before .before .before .before .before .pel-at .ensures .1,
-      w .0,
-      w .1,
-    )
+    let t = pel-turn (c .before) in
+    let p = begin₁ t .pre in
+    let w = edge t in
+    (p .2, omega (arith, t .loop-test .taken, p .0), known (looked (c .before)) .pel-at .ensures .1, w .0, w .1)
 
 add-x-2 : tie.Need-add-x-2 Inv-loop μ-loop
-add-x-2 c = omega (
-  arith,
-  c .before .before .before .before .before .before .before .before .before .before .before .loop-test .taken,
-  c .before
-      .before .before .before .before .before .before .before .before .before .before .before .before .before .before .before .before .before
-      .before .pre .0,
-)
+add-x-2 c = let t = pel-turn (c .before .before) in omega (arith, t .loop-test .taken, begin₁ t .pre .0)
 
 loop-less-2 : tie.Need-loop-less-2 Inv-loop μ-loop
-loop-less-2 c = omega (arith, c .before .before .before .before .before .before .before .before .before .before .before .loop-test .taken)
+loop-less-2 c = omega (arith, pel-turn (c .before .before) .loop-test .taken)
 
 loop-again-2 : tie.Need-loop-again-2 Inv-loop μ-loop
 loop-again-2 c =
-    let a = c .before .before .before .before .before .before .before .before .before .before .before .before .before .before .before .before
-    .before .before .before .args in
-    let l = c .before .before .before .before .before .before .before .before .before .before .before .before .loop in
-    let p = c .before .before .before .before .before .before .before .before .before .before .pel-at in
+    let t = pel-turn (c .before .before) in
+    let a = begin₁ t .args in
+    let l = t .before .loop in
+    let p = known (looked (c .before .before)) .pel-at in
     let v = c .before .before .before .put-pel in
     let j = c .before .if3 in
     let s = c .slide in
     let m = c .before .before .before .before .before .if1 in
     let above = pelsTo (a .above .now) (a .width) in
     let cx = 4 * l .window .above + l .window .this in
-    let put : (j .table .entries ≡ set (l .table .entries) cx (v .result .entry)) × (j .out ≡ stores (l .out) (l .at) (bytesOf (v .result)))
+    let put : (j .table .entries ≡ set (l .table .entries) cx (v .result .entry))
+    × (j .out ≡ stores (l .out) (l .at) (bytesOf (v .result)))
     × (j .at ≡ l .at + v .result .settled)
     = ⊎-elim (λ w. (ap (λ (u : Table). u .entries) (w .6), w .5 ∙ w .2 .ensures .1, w .7 ∙ w .2 .ensures .0))
-    (λ w. let k = pelled-kept (l .coder) (l .table .entries) (l .out) cx (l .at) _ (v .result) (v .ensures) (w .0 .left) in
+    (λ w. let k = pelled-kept (l .coder) (l .table .entries) (l .out) cx (l .at) _ (v .result) (v .ensures)
+    (w .0 .left) in
     (ap (λ (u : Table). u .entries) (w .2) ∙ k .0, w .1 ∙ k .1, w .3 ∙ k .2)) (j .came) in
     let reach : Clear (a .row .now) above (a .width) (l .x) (m .end)
-    = ⊎-elim (λ w. subst (λ (z : ℕ). Clear (a .row .now) above (a .width) (l .x) z) (sym (w .6)) (w .1 .ensures .1))
+    = ⊎-elim
+    (λ w. subst (λ (z : ℕ). Clear (a .row .now) above (a .width) (l .x) z) (sym (w .6)) (w .1 .ensures .1))
     (λ w. subst (λ (z : ℕ). Clear (a .row .now) above (a .width) (l .x) z) (sym (w .1)) (l .inv .1)) (m .came) in
     rw add-one (
-      row-again (a .width) above (a .row .now) _ _ _ _ (l .table .entries) (l .coder) (l .window) (l .out) (l .at) (l .x) (v .result) (l .inv .0)
-          (c .before .before .before .before .before .before .before .before .before .before .before .loop-test .taken) cx (p .result)
-          (j .table .entries) (s .result) (j .out) (j .at) (put .0) (pels-bits (a .above .now) (a .width))
-          (slid-context _ _ _ _ (l .inv .0 .slid)) (p .ensures .0) (v .ensures) (s .ensures .0) (s .ensures .1) (put .1) (put .2),
+      row-again (a .width) above (a .row .now) _ _ _ _ (l .table .entries) (l .coder) (l .window) (l .out) (l .at)
+          (l .x) (v .result) (l .inv .0) (t .loop-test .taken) cx (p .result) (j .table .entries) (s .result) (j .out)
+          (j .at) (put .0) (pels-bits (a .above .now) (a .width)) (slid-context _ _ _ _ (l .inv .0 .slid))
+          (p .ensures .0) (v .ensures) (s .ensures .0) (s .ensures .1) (put .1) (put .2),
       clear-later _ _ _ _ _ _ (omega arith) reach,
     )
 
@@ -261,7 +235,8 @@ same-length : tie.Need-same-length Inv-loop μ-loop
 same-length c = row-length _ _ _ _ _ _ _ _ _ _ _ _ _ (c .before .loop .inv .0)
 
 returns : tie.Need-returns Inv-loop μ-loop
-returns c = row-done _ _ _ _ _ _ _ _ _ _ _ _ _ (c .before .loop .inv .0) (omega (arith, c .before .loop .inv .0 .passed))
+returns c =
+    row-done _ _ _ _ _ _ _ _ _ _ _ _ _ (c .before .loop .inv .0) (omega (arith, c .before .loop .inv .0 .passed))
 
 pub write-row-spec : {M : Type 1} → statement M
 write-row-spec =

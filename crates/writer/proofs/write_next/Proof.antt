@@ -7,75 +7,69 @@ use lib.ListN.{length}
 use Rattle.writer.proofs.Bands.{sizes, part-wide, row-part, row-before}
 use Rattle.writer.proofs.write_next.Statement.{statement}
 use Rattle.writer.proofs.write_next.Tie as tie
+use Rattle.writer.specs.Bands.{Sizes}
 
--- src/lib.rt:101:9
+-- ---- the stations of a row: each is a place passed on the way, seen from a later one
+-- all begins, seen from where a row's bytes are counted
+abbrev begin : tie.After-row-bytes → tie.Start
+begin c = c .before .before .before
+
+-- a row's bytes are counted, seen from where the row is written
+abbrev sized : tie.After-write-row-arg → tie.After-row-bytes
+sized c = c .before .before .before
+
+-- ---- both rows lie in the band
+inside : (c : tie.After-row-bytes) → let a = begin c .args in
+    Sizes (a .y) (c .row-bytes .result) (length (a .pels .now))
+inside c =
+    let a = begin c .args in
+    sizes (a .width) (a .y) (c .row-bytes .result) (length (a .pels .now)) (c .row-bytes .ensures)
+    (omega arith) (omega arith) (omega arith) (omega arith)
+
+-- ---- the answers
 row-bytes-requires : tie.Need-row-bytes-requires
 row-bytes-requires c κs = search needs
 
--- src/lib.rt:102:16
 mul-from : tie.Need-mul-from
-mul-from c =
-    let a = c .before .before .before .args in
-    let z = sizes (a .width) (a .y) (c .row-bytes .result) (length (a .pels .now)) (c .row-bytes .ensures)
-    (omega arith) (omega arith) (omega arith) (omega arith) in omega arith
+mul-from c = let z = inside c in omega arith
 
--- src/lib.rt:103:27
 add-row : tie.Need-add-row
-add-row c =
-    let a = c .before .before .before .args in
-    let z = sizes (a .width) (a .y) (c .row-bytes .result) (length (a .pels .now)) (c .row-bytes .ensures)
-    (omega arith) (omega arith) (omega arith) (omega arith) in omega arith
+add-row c = let z = inside c in omega arith
 
--- src/lib.rt:103:15
 sub-row : tie.Need-sub-row
 sub-row c = search needs
 
--- src/lib.rt:103:15
 part-row-start : tie.Need-part-row-start
 part-row-start c = search needs
 
--- src/lib.rt:103:15
 part-row-end : tie.Need-part-row-end
-part-row-end c =
-    let a = c .before .before .before .args in
-    let z = sizes (a .width) (a .y) (c .row-bytes .result) (length (a .pels .now)) (c .row-bytes .ensures)
-    (omega arith) (omega arith) (omega arith) (omega arith) in omega arith
+part-row-end c = let z = inside c in omega arith
 
--- src/lib.rt:104:23
 sub-above : tie.Need-sub-above
-sub-above c =
-    let a = c .before .before .before .before .args in
-    let z = sizes (a .width) (a .y) (c .before .row-bytes .result) (length (a .pels .now))
-    (c .before .row-bytes .ensures) (omega arith) (omega arith) (omega arith) (omega arith) in omega arith
+sub-above c = let z = inside (c .before) in omega arith
 
--- src/lib.rt:104:17
 sub-above-2 : tie.Need-sub-above-2
 sub-above-2 c = search needs
 
--- src/lib.rt:104:17
 part-above-start : tie.Need-part-above-start
 part-above-start c = search needs
 
--- src/lib.rt:104:17
 part-above-end : tie.Need-part-above-end
-part-above-end c =
-    let a = c .before .before .before .before .args in
-    let z = sizes (a .width) (a .y) (c .before .row-bytes .result) (length (a .pels .now))
-    (c .before .row-bytes .ensures) (omega arith) (omega arith) (omega arith) (omega arith) in omega arith
+part-above-end c = let z = inside (c .before) in omega arith
 
--- src/lib.rt:105:5
 write-row-requires : tie.Need-write-row-requires
 write-row-requires c κs =
-    let a = c .before .before .before .before .before .before .args in
-    let z = sizes (a .width) (a .y) (c .before .before .before .row-bytes .result)
-    (length (a .pels .now)) (c .before .before .before .row-bytes .ensures) (omega arith) (omega arith) (omega arith) (omega arith) in
-    let q = c .before .before .before .before .before .before .pre in
-    let b = c .before .before .before .row-bytes in (
+    let s = sized c in
+    let a = begin s .args in
+    let q = begin s .pre in
+    let b = s .row-bytes in
+    let z = inside s in
+    let from = a .y * b .result in (
       omega arith,
-      part-wide (a .width) (b .result) (a .y * b .result + b .result - a .y * b .result) (a .y * b .result) (a .pels .now) (b .ensures)
-          (omega arith) (z .inside),
-      part-wide (a .width) (b .result) (a .y * b .result - (a .y * b .result - b .result)) (a .y * b .result - b .result)
-          (a .pels .now) (b .ensures) (omega arith) (omega arith),
+      part-wide (a .width) (b .result) (from + b .result - from) from (a .pels .now) (b .ensures) (omega arith)
+          (z .inside),
+      part-wide (a .width) (b .result) (from - (from - b .result)) (from - b .result) (a .pels .now) (b .ensures)
+          (omega arith) (omega arith),
       omega arith,
       q .5,
       q .6,
@@ -83,19 +77,17 @@ write-row-requires c κs =
       q .8,
     )
 
--- src/lib.rt:97:1
 same-length : tie.Need-same-length
 same-length c = search needs
 
--- src/lib.rt:97:1
 returns : tie.Need-returns
 returns c =
-    let a = c .before .before .before .before .before .before .before .before .before .args in
-    let b = c .before .before .before .before .before .before .row-bytes in
+    let s = sized (c .before .before .before) in
+    let a = begin s .args in
+    let b = s .row-bytes in
     rw (
       row-part (a .width) (a .pels .now) (b .result) (b .ensures) (a .y) _ refl,
-      row-before (a .width) (a .pels .now) (b .result) (b .ensures)
-          (a .y) _ (omega arith) refl,
+      row-before (a .width) (a .pels .now) (b .result) (b .ensures) (a .y) _ (omega arith) refl,
     ) at (c .before .before .write-row .ensures)
 
 pub write-next-spec : {M : Type 1} → statement M

@@ -1,4 +1,5 @@
--- The rows of a band, one after the other: the loop's invariant is that the rows after the first keep `BandAt`. Assumes nothing.
+-- The rows of a band, one after the other: the loop's invariant is that the rows after the first keep `BandAt`. Assumes
+-- nothing.
 use mathlib.Core.Path.{_≡_, refl, sym, _∙_, subst}
 use Prim.Native.Nat.{_-_, _≤_, _<_}
 use native.Mathlib.Omega.{arith}
@@ -10,7 +11,8 @@ use Rattle.template.specs.Pels.{rowAt, rowBytes}
 use Rattle.octets.specs.Fit.{Ready}
 use Rattle.octets.proofs.Fit.{ready-start}
 use Rattle.writer.specs.Bands.{BandAt}
-use Rattle.writer.proofs.Bands.{RowsKeep, band-first, start-count, keep-next, rows-fit, row-inside, band-length}
+use Rattle.writer.proofs.Bands.{RowsKeep, band-first, start-count}
+use Rattle.writer.proofs.Bands.{keep-next, rows-fit, row-inside, band-length}
 use Rattle.writer.proofs.write_rows.Statement.{statement}
 use Rattle.writer.proofs.write_rows.Tie as tie
 
@@ -21,74 +23,95 @@ Inv-loop pels width rows out₀ bytes run₀ y₀ out run y =
 abbrev μ-loop : tie.MeasureT-loop
 μ-loop pels width rows out₀ bytes run₀ y₀ out run y = rows - y
 
--- the first row
-begun : (c : tie.After-write-row Inv-loop μ-loop)
-    → BandAt (c .before .before .before .before .before .before .before .before .args .width)
-    (c .before .before .before .before .before .before .before .before .args .t2)
-    (c .before .before .before .before .before .before .before .before .args .pels .now)
-    (c .before .before .before .before .before .before .before .before .args .table .entries)
-    (c .before .before .before .before .before .before .before .before .args .out .now) (rowAt
-    (c .before .before .before .before .before .before .before .before .args .width)
-    (c .before .before .before .before .before .before .before .before .args .pels .now) 0) (c .write-row .result .table .entries)
-    (c .write-row .result .coder) (c .write-row .last .1 .1 .1 .1 .0) (c .write-row .result .at) 1
-begun c =
-    let a = c .before .before .before .before .before .before .before .before .args in
-    band-first (a .width) (a .t2) (a .pels .now) (a .table .entries) (a .out .now) (c .before .before .before .before .before .row-bytes .result)
-    (c .before .before .before .before .start .result) _ _ _ _
-    (c .before .before .before .before .before .row-bytes .ensures) (c .before .before .before .before .before .before .before .before .pre .0)
-    (c .before .before .before .before .before .before .before .before .pre .1) (c .before .before .before .before .start .ensures)
-    (c .before .before .before .before .before .before .before .before .pre .5) (c .write-row .ensures)
+-- ---- the stations of the rows: each is a place passed on the way, seen from a later one
+-- the band begins, seen from where a row's bytes are counted
+abbrev begin : tie.After-row-bytes Inv-loop μ-loop → tie.Start Inv-loop μ-loop
+begin c = c .before .before .before
 
--- src/lib.rt:113:9
+-- a row's bytes are counted, seen from where the first row is written
+abbrev sized : tie.After-write-row Inv-loop μ-loop → tie.After-row-bytes Inv-loop μ-loop
+sized c = c .before .before .before .before .before
+
+-- the first row is written, seen from the loop
+abbrev first : tie.At-loop Inv-loop μ-loop → tie.After-write-row Inv-loop μ-loop
+first c = c .before .before .before
+
+-- the turn begins, seen from where its row is written
+abbrev turn : tie.After-slice-known3 Inv-loop μ-loop → tie.In-loop Inv-loop μ-loop
+turn c = c .before .before .before .before
+
+abbrev begin₁ : tie.At-loop Inv-loop μ-loop → tie.Start Inv-loop μ-loop
+begin₁ c = begin (sized (first c))
+
+-- ---- what is known at each
+-- the first row's bytes are there
+whole : (c : tie.After-row-bytes Inv-loop μ-loop) → c .row-bytes .result ≤ length (begin c .args .pels .now)
+whole c =
+    let a = begin c .args in
+    let q = begin c .pre in
+    let n = rowBytes (a .width) in
+    let z = rows-fit (a .width) (a .pels .now) n refl (a .rows) 0 (omega arith) (q .3) (q .1) (q .4) in
+    omega (arith, c .row-bytes .ensures, z .0)
+
+-- the first row
+begun : (c : tie.After-write-row Inv-loop μ-loop) → let a = begin (sized c) .args in let w = c .write-row in
+    BandAt (a .width) (a .t2) (a .pels .now) (a .table .entries) (a .out .now) (rowAt (a .width) (a .pels .now) 0)
+    (w .result .table .entries) (w .result .coder) (w .last .1 .1 .1 .1 .0) (w .result .at) 1
+begun c =
+    let s = sized c in
+    let a = begin s .args in
+    let q = begin s .pre in
+    let m = s .row-bytes in
+    let k = c .before .before .before .before .start in
+    band-first (a .width) (a .t2) (a .pels .now) (a .table .entries) (a .out .now) (m .result) (k .result) _ _ _ _
+    (m .ensures) (q .0) (q .1) (k .ensures) (q .5) (c .write-row .ensures)
+
+-- the rows so far
+kept : (c : tie.At-loop Inv-loop μ-loop) → let a = begin₁ c .args in let l = c .loop in
+    BandAt (a .width) (a .t2) (a .pels .now) (a .table .entries) (a .out .now)
+    (rowAt (a .width) (a .pels .now) (l .y - 1)) (l .run .table .entries) (l .run .coder) (l .out) (l .run .at) (l .y)
+kept c = let a = begin₁ c .args in c .loop .inv .3 (a .t2) (a .table .entries) (a .out .now) (begun (first c))
+
+-- ---- the answers
 row-bytes-requires : tie.Need-row-bytes-requires Inv-loop μ-loop
 row-bytes-requires c κs = omega arith
 
--- src/lib.rt:114:9
 start-requires : tie.Need-start-requires Inv-loop μ-loop
 start-requires c κs = tt
 
--- src/lib.rt:116:29
 slice-aggregate-write-row : tie.Need-slice-aggregate-write-row Inv-loop μ-loop
-slice-aggregate-write-row c =
-    let a = c .before .before .before .before .before .args in
-    let z = rows-fit (a .width) (a .pels .now) (rowBytes (a .width)) refl (a .rows) 0
-    (omega arith) (c .before .before .before .before .before .pre .3) (c .before .before .before .before .before .pre .1)
-    (c .before .before .before .before .before .pre .4) in sym (length-take-le _ _ (omega (arith, c .before .before .row-bytes .ensures, z .0)))
+slice-aggregate-write-row c = sym (length-take-le _ _ (whole (c .before .before)))
 
--- src/lib.rt:116:45
 slice-aggregate-write-row-2 : tie.Need-slice-aggregate-write-row-2 Inv-loop μ-loop
 slice-aggregate-write-row-2 c = search needs
 
--- src/lib.rt:116:9
 write-row-requires : tie.Need-write-row-requires Inv-loop μ-loop
 write-row-requires c κs =
-    let a = c .before .before .before .before .before .before .before .args in
-    let z = rows-fit (a .width) (a .pels .now) (rowBytes (a .width)) refl
-    (a .rows) 0 (omega arith) (c .before .before .before .before .before .before .before .pre .3)
-    (c .before .before .before .before .before .before .before .pre .1) (c .before .before .before .before .before .before .before .pre .4) in
+    let s = c .before .before .before .before in
+    let a = begin s .args in
+    let q = begin s .pre in
+    let m = s .row-bytes in
+    let k = c .before .before .before .start in
     let n : length (a .t2) ≡ lastBytes = search needs in (
-      c .before .before .before .before .before .before .before .pre .1,
-      rw (length-take-le (c .before .before .before .before .row-bytes .result) (a .pels .now) (omega (arith, c .before .before .before .before .row-bytes .ensures, z .0))) (omega (arith, c .before .before .before .before .row-bytes .ensures)),
-      omega (arith, c .before .before .before .before .before .before .before .pre .1),
-      c .before .before .before .before .before .before .before .pre .0,
-      c .before .before .before .before .before .before .before .pre .5,
-      subst Ready (sym (c .before .before .before .start .ensures)) ready-start,
-      omega (arith, start-count (c .before .before .before .start .result) (c .before .before .before .start .ensures)),
+      q .1,
+      rw (length-take-le (m .result) (a .pels .now) (whole s)) (omega (arith, m .ensures)),
+      omega (arith, q .1),
+      q .0,
+      q .5,
+      subst Ready (sym (k .ensures)) ready-start,
+      omega (arith, start-count (k .result) (k .ensures)),
       omega arith,
     )
 
--- src/lib.rt:118:5
 loop-holds : tie.Need-loop-holds Inv-loop μ-loop
-loop-holds c = (omega arith, c .before .before .before .before .before .before .before .before .before .before .pre .2, refl, (λ last t o b. b))
+loop-holds c = (omega arith, begin (sized (c .before .before)) .pre .2, refl, (λ last t o b. b))
 
--- src/lib.rt:119:9
 write-next-requires : tie.Need-write-next-requires Inv-loop μ-loop
 write-next-requires c κs =
-    let a = c .before .before .before .before .before .before .before .before .before .before .before .before .before .args in
+    let a = begin₁ (c .before .before) .args in
+    let q = begin₁ (c .before .before) .pre in
     let l = c .before .before .loop in
-    let q = c .before .before .before .before .before .before .before .before .before .before .before .before .before .pre
-    in
-    let b = l .inv .3 (a .t2) (a .table .entries) (a .out .now) (begun (c .before .before .before .before .before)) in
+    let b = kept (c .before .before) in
     let t : l .y < a .rows = c .before .loop-test .taken in (
       q .0,
       q .1,
@@ -101,52 +124,34 @@ write-next-requires c κs =
       omega (arith, b .place, b .few, t, q .3),
     )
 
--- src/lib.rt:120:9
 add-y : tie.Need-add-y Inv-loop μ-loop
-add-y c =
-    omega (
-      arith,
-      c .before .before .before .before .loop-test .taken,
-      c .before .before .before .before .before .before .before .before .before .before .before .before .before .before .before .before .pre .3,
-    )
+add-y c = let t = turn c in omega (arith, t .loop-test .taken, begin₁ (t .before) .pre .3)
 
--- src/lib.rt:118:5
 loop-less : tie.Need-loop-less Inv-loop μ-loop
-loop-less c = omega (arith, c .before .before .before .before .loop-test .taken)
+loop-less c = omega (arith, turn c .loop-test .taken)
 
--- src/lib.rt:118:5
 loop-again : tie.Need-loop-again Inv-loop μ-loop
 loop-again c =
-    let a = c .before .before .before .before .before .before .before .before .before .before .before .before .before .before .before .before .args in
-    let q = c .before .before .before .before .before .before .before .before .before .before .before .before .before .before .before .before .pre in
-    let l = c .before .before .before .before .before .loop in
+    let t = turn c in
+    let a = begin₁ (t .before) .args in
+    let q = begin₁ (t .before) .pre in
+    let l = t .before .loop in
     let v = c .before .before .write-next in (
       omega (arith, l .inv .0),
-      omega (arith, c .before .before .before .before .loop-test .taken),
+      omega (arith, t .loop-test .taken),
       v .kept .1 .1 .1 .1 .0 ∙ l .inv .2,
-      keep-next (a .width) (a .pels .now) _ (l .run) (v .result) _ (l .out) _ (l .y) _ (q .0) (q .1) (l .inv .0) (l .inv .3) (v .ensures)
-          (omega (arith, l .inv .0)),
+      keep-next (a .width) (a .pels .now) _ (l .run) (v .result) _ (l .out) _ (l .y) _ (q .0) (q .1) (l .inv .0)
+          (l .inv .3) (v .ensures) (omega (arith, l .inv .0)),
     )
 
--- src/lib.rt:109:1
 same-length : tie.Need-same-length Inv-loop μ-loop
-same-length c =
-    let a = c .before .before .before .before .before .before .before .before .before .before .before .before .args in
-    let l = c .before .loop in
-    let q = c .before .before .before .before .before .before .before .before .before .before .before .before .pre in
-    let b = l .inv .3 (a .t2)
-    (a .table .entries) (a .out .now) (begun (c .before .before .before .before)) in band-length _ _ _ _ _ _ _ _ _ _ _ b
+same-length c = band-length _ _ _ _ _ _ _ _ _ _ _ (kept (c .before))
 
--- src/lib.rt:109:1
 returns : tie.Need-returns Inv-loop μ-loop
 returns c =
-    let a = c .before .before .before .before .before .before .before .before .before .before .before .before .args in
     let l = c .before .loop in
-    let q = c .before .before .before .before .before .before .before .before .before .before .before .before .pre in
-    let b = l .inv .3 (a .t2)
-    (a .table .entries) (a .out .now) (begun (c .before .before .before .before)) in
-    let e : l .y ≡ a .rows = omega (arith, l .inv .1, c .loop-test .left) in
-    rw e at b
+    let e : l .y ≡ begin₁ (c .before) .args .rows = omega (arith, l .inv .1, c .loop-test .left) in
+    rw (← e) (kept (c .before))
 
 pub write-rows-spec : {M : Type 1} → statement M
 write-rows-spec =

@@ -13,44 +13,61 @@ use Rattle.sight.proofs.View.advance.Tie as tie
 
 abbrev Inv-loop : tie.InvT-loop
 Inv-loop code k v₀ v =
-    (v .at ≤ length code) × (v .look ≤ k + 7) × (v .x < 2 ^ 32) × ((w : ℕ) → seeks k (sightOf v w code) ≡ seeks k (sightOf v₀ w code))
+    (v .at ≤ length code) × (v .look ≤ k + 7) × (v .x < 2 ^ 32)
+    × ((w : ℕ) → seeks k (sightOf v w code) ≡ seeks k (sightOf v₀ w code))
 
 abbrev μ-loop : tie.MeasureT-loop
 μ-loop code k v₀ v = k - v .look
 
--- src/lib.rt:94:9
+-- ---- the stations of an advance: each is a place passed on the way, seen from a later one
+-- all begins, seen from the loop
+abbrev begin : tie.At-loop Inv-loop μ-loop → tie.Start Inv-loop μ-loop
+begin c = c .before .before
+
+-- the turn begins, seen from where a byte more is read
+abbrev turn : tie.After-more Inv-loop μ-loop → tie.At-loop Inv-loop μ-loop
+turn c = c .before .before .before
+
+-- ---- how far a byte more reaches
+farther : (c : tie.After-more Inv-loop μ-loop) → let v = turn c .loop .v in
+    c .more .result .look ≡ v .look + bits (v .last)
+farther c = ap (λ (s : Sight). s .look) (c .more .ensures .0 0)
+
+-- ---- the answers
 loop-holds : tie.Need-loop-holds Inv-loop μ-loop
 loop-holds c = (omega arith, omega arith, omega arith, (λ w. refl))
 
--- src/lib.rt:95:13
 more-requires : tie.Need-more-requires Inv-loop μ-loop
-more-requires c κs = (c .before .before .loop .inv .0, omega (arith, c .if1 .taken, c .before .before .before .before .pre .3), c .before .before .loop .inv .2)
+more-requires c κs =
+    let l = c .before .before in
+    (l .loop .inv .0, omega (arith, c .if1 .taken, begin l .pre .3), l .loop .inv .2)
 
--- src/lib.rt:94:9
 loop-less : tie.Need-loop-less Inv-loop μ-loop
-loop-less c =
-    let l : c .more .result .look ≡ c .before .before .before .loop .v .look + bits (c .before .before .before .loop .v .last) = ap (λ (s : Sight).
-    s .look) (c .more .ensures .0 0) in omega (arith, c .before .if1 .taken, bits-few (c .before .before .before .loop .v .last))
+loop-less c = omega (arith, farther c, c .before .if1 .taken, bits-few (turn c .loop .v .last))
 
--- src/lib.rt:94:9
 loop-again : tie.Need-loop-again Inv-loop μ-loop
 loop-again c =
-    let l : c .more .result .look ≡ c .before .before .before .loop .v .look + bits (c .before .before .before .loop .v .last) = ap (λ (s : Sight).
-    s .look) (c .more .ensures .0 0) in (
-      c .more .ensures .1,
-      omega (arith, c .before .if1 .taken, bits-few (c .before .before .before .loop .v .last)),
-      c .more .ensures .2,
-      (λ w. ap (seeks (c .before .before .before .before .before .args .k)) (c .more .ensures .0 w) ∙ sym (seeks-more (c .before .before .before .before .before .args .k) _ (sightOf (c .before .before .before .loop .v) w (c .before .before .before .before .before .args .code .now)) refl (c .before .if1 .taken)) ∙ c .before .before .before .loop .inv .3 w),
+    let l = turn c .loop in
+    let a = begin (turn c) .args in
+    let m = c .more .ensures in
+    let t = c .before .if1 .taken in (
+      m .1,
+      omega (arith, farther c, t, bits-few (l .v .last)),
+      m .2,
+      (λ w. ap (seeks (a .k)) (m .0 w) ∙ sym (seeks-more (a .k) _ (sightOf (l .v) w (a .code .now)) refl t)
+          ∙ l .inv .3 w),
     )
 
--- src/lib.rt:89:5
 returns : tie.Need-returns Inv-loop μ-loop
-returns c = (
-  (λ w. sym (seeks-few (c .before .before .before .before .before .args .k) (sightOf (c .before .before .before .loop .v) w (c .before .before .before .before .before .args .code .now)) (c .before .if1 .left)) ∙ c .before .before .before .loop .inv .3 w),
-  c .before .before .before .loop .inv .0,
-  omega (arith, c .before .before .before .loop .inv .1, c .before .if1 .left),
-  c .before .before .before .loop .inv .2,
-)
+returns c =
+    let l = c .before .before .before .loop in
+    let a = begin (c .before .before .before) .args in
+    let t = c .before .if1 .left in (
+      (λ w. sym (seeks-few (a .k) (sightOf (l .v) w (a .code .now)) t) ∙ l .inv .3 w),
+      l .inv .0,
+      omega (arith, l .inv .1, t),
+      l .inv .2,
+    )
 
 pub advance-spec : {M : Type 1} → statement M
 advance-spec =

@@ -5,58 +5,58 @@ use native.Mathlib.Omega.{arith}
 use Rattle.sight.proofs.Views.{view-start, power-small, product-small}
 use Rattle.sight.proofs.View.start.Statement.{statement}
 use Rattle.sight.proofs.View.start.Tie as tie
+use Prim.Native.Nat.{_+_, _*_, _≤_}
 
--- src/lib.rt:72:13
+-- ---- all begins, seen from where the power is known
+abbrev begin : tie.After-power → tie.Start
+begin c = c .before .before .before .before .before
+
+-- ---- what is known there
+few : (c : tie.After-power) → let n = c .before .bits-after .result in (7 ≤ n) × (n ≤ 8) × (c .power .result ≤ 256)
+few c = power-small _ _ _ (c .before .bits-after .ensures) (c .power .ensures)
+
+small : (c : tie.After-power) → let f = c .before .before .before .fetch .result in
+    f .byte * c .power .result + c .before .before .fetch2 .result .byte ≤ 255 * 256 + 255
+small c =
+    let f = c .before .before .before .fetch in
+    let g = c .before .before .fetch2 in
+    product-small (f .result .byte) (c .power .result) (g .result .byte) 255 (f .ensures .1) (few c .2) (g .ensures .1)
+
+-- ---- the answers
 fetch-requires : tie.Need-fetch-requires
 fetch-requires c κs = search needs
 
--- src/lib.rt:73:13
 fetch-requires-2 : tie.Need-fetch-requires-2
 fetch-requires-2 c κs = search needs
 
--- src/lib.rt:74:13
 bits-after-requires : tie.Need-bits-after-requires
 bits-after-requires c κs = search needs
 
--- src/lib.rt:75:28
 power-requires : tie.Need-power-requires
 power-requires c κs = omega (arith, power-small _ _ _ (c .bits-after .ensures) refl)
 
--- src/lib.rt:75:19
 mul-t6 : tie.Need-mul-t6
-mul-t6 c =
-    let k = power-small _ _ _ (c .before .before .bits-after .ensures) (c .before .power .ensures) in omega (
-      arith,
-      product-small
-          (c .before .before .before .before .fetch .result .byte) (c .before .power .result) 0 255 (c .before .before .before .before .fetch .ensures .1)
-          (k .2) (omega arith),
-    )
+mul-t6 c = omega (arith, small (c .before))
 
--- src/lib.rt:75:19
 add-t7 : tie.Need-add-t7
-add-t7 c =
-    let k = power-small _ _ _ (c .before .before .before .bits-after .ensures) (c .before .before .power .ensures) in omega (
-      arith,
-      product-small
-          (c .before .before .before .before .before .fetch .result .byte) (c .before .before .power .result)
-          (c .before .before .before .before .fetch2 .result .byte) 255 (c .before .before .before .before .before .fetch .ensures .1) (k .2)
-          (c .before .before .before .before .fetch2 .ensures .1),
-    )
+add-t7 c = omega (arith, small (c .before .before))
 
--- src/lib.rt:75:61
 sub-t8 : tie.Need-sub-t8
-sub-t8 c = omega (arith, power-small _ _ _ (c .before .before .before .bits-after .ensures) (c .before .before .power .ensures))
+sub-t8 c = omega (arith, few (c .before .before))
 
--- src/lib.rt:69:5
 returns : tie.Need-returns
 returns c =
-    let f = c .before .before .before .before .before .fetch in
-    let g = c .before .before .before .before .fetch2 in
-    let k = power-small _ _ _ (c .before .before .before .bits-after .ensures) (c .before .before .power .ensures) in (
-      view-start (f .result .byte) (g .result .byte) (f .result .at) (g .result .at) (c .before .before .before .bits-after .result) (c .before .before .power .result) (c .before .before .before .before .before .before .before .args .code .now) (f .ensures .0) (f .ensures .2) (g .ensures .0) (g .ensures .2) (c .before .before .before .bits-after .ensures) (c .before .before .power .ensures),
+    let p = c .before .before in
+    let f = p .before .before .before .fetch in
+    let g = p .before .before .fetch2 in
+    let n = p .before .bits-after in
+    let k = few p in (
+      view-start (f .result .byte) (g .result .byte) (f .result .at) (g .result .at) (n .result) (p .power .result)
+          (begin p .args .code .now) (f .ensures .0) (f .ensures .2) (g .ensures .0) (g .ensures .2) (n .ensures)
+          (p .power .ensures),
       g .ensures .3,
       omega arith,
-      omega (arith, product-small (f .result .byte) (c .before .before .power .result) (g .result .byte) 255 (f .ensures .1) (k .2) (g .ensures .1)),
+      omega (arith, small p),
       g .ensures .1,
     )
 
