@@ -24,7 +24,8 @@ pub fn closed<'a>(
     class: u64,
 ) -> Reply
     requires { ⌜ Sized (now working) (now rows) (now learned) ⌝ }
-    ensures { λ r. ⌜ Serves (partsOf book (now (working .entry)) (now (rows .entry)) (now (learned .entry))) (closes (asKey school class)) (r .answer)
+    ensures { λ r. ⌜ Serves (partsOf book (now (working .entry)) (now (rows .entry)) (now (learned .entry)))
+        (closes (asKey school class)) (r .answer)
         (partsOf (r .book) (now (working .exit)) (now (rows .exit)) (now (learned .exit))) [] ⌝ }
 {
     let key = Key {
@@ -43,7 +44,8 @@ pub fn abandoned<'a>(
     class: u64,
 ) -> Reply
     requires { ⌜ Sized (now working) (now rows) (now learned) ⌝ }
-    ensures { λ r. ⌜ Serves (partsOf book (now (working .entry)) (now (rows .entry)) (now (learned .entry))) (abandons (asKey school class))
+    ensures { λ r. ⌜ Serves (partsOf book (now (working .entry)) (now (rows .entry)) (now (learned .entry)))
+        (abandons (asKey school class))
         (r .answer) (partsOf (r .book) (now (working .exit)) (now (rows .exit)) (now (learned .exit))) [] ⌝ }
 {
     let key = Key {
@@ -77,7 +79,8 @@ pub fn opened_to_write<'a>(
     width: u64,
 ) -> Reply
     requires { ⌜ Sized (now working) (now rows) (now learned) ⌝ }
-    ensures { λ r. ⌜ Serves (partsOf book (now (working .entry)) (now (rows .entry)) (now (learned .entry))) (opens (toWrite school class width))
+    ensures { λ r. ⌜ Serves (partsOf book (now (working .entry)) (now (rows .entry)) (now (learned .entry)))
+        (opens (toWrite school class width))
         (r .answer) (partsOf (r .book) (now (working .exit)) (now (rows .exit)) (now (learned .exit))) [] ⌝ }
 {
     let ask = asked_to(school, class, Direction::Write, width);
@@ -94,7 +97,8 @@ pub fn opened_to_read<'a>(
     width: u64,
 ) -> Reply
     requires { ⌜ Sized (now working) (now rows) (now learned) ⌝ }
-    ensures { λ r. ⌜ Serves (partsOf book (now (working .entry)) (now (rows .entry)) (now (learned .entry))) (opens (toRead school class width))
+    ensures { λ r. ⌜ Serves (partsOf book (now (working .entry)) (now (rows .entry)) (now (learned .entry)))
+        (opens (toRead school class width))
         (r .answer) (partsOf (r .book) (now (working .exit)) (now (rows .exit)) (now (learned .exit))) [] ⌝ }
 {
     let ask = asked_to(school, class, Direction::Read, width);

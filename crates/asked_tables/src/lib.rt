@@ -23,7 +23,8 @@ pub fn forgotten<'a>(
     class: u64,
 ) -> Reply
     requires { ⌜ Sized (now working) (now rows) (now learned) ⌝ }
-    ensures { λ r. ⌜ Serves (partsOf book (now (working .entry)) (now (rows .entry)) (now (learned .entry))) (drops (asKey school class)) (r .answer)
+    ensures { λ r. ⌜ Serves (partsOf book (now (working .entry)) (now (rows .entry)) (now (learned .entry)))
+        (drops (asKey school class)) (r .answer)
         (partsOf (r .book) (now (working .exit)) (now (rows .exit)) (now (learned .exit))) [] ⌝ }
 {
     let key = Key {
@@ -43,8 +44,10 @@ pub fn looked<'a, 'b>(
     out: &'b mut [u8],
 ) -> Reply
     requires { ⌜ Sized (now working) (now rows) (now learned) ⌝ }
-    ensures { λ r. ⌜ Serves (partsOf book (now (working .entry)) (now (rows .entry)) (now (learned .entry))) (looks (asKey school class)
-        (now (out .entry))) (r .answer) (partsOf (r .book) (now (working .exit)) (now (rows .exit)) (now (learned .exit))) (now (out .exit)) ⌝ }
+    ensures { λ r. ⌜ Serves (partsOf book (now (working .entry)) (now (rows .entry)) (now (learned .entry)))
+        (looks (asKey school class)
+        (now (out .entry))) (r .answer) (partsOf (r .book) (now (working .exit)) (now (rows .exit))
+        (now (learned .exit))) (now (out .exit)) ⌝ }
 {
     let key = Key {
         school: school,
@@ -60,7 +63,8 @@ pub fn emptied<'a>(
     learned: &'a mut [[u8; CONTEXTS]; PLACES],
 ) -> Book
     requires { ⌜ Sized (now working) (now rows) (now learned) ⌝ }
-    ensures { λ r. ⌜ (deskOf (partsOf r (now (working .exit)) (now (rows .exit)) (now (learned .exit))) ≡ emptyDesk) × Whole (partsOf
+    ensures { λ r. ⌜ (deskOf (partsOf r (now (working .exit)) (now (rows .exit)) (now (learned .exit))) ≡ emptyDesk)
+        × Whole (partsOf
         r (now (working .exit)) (now (rows .exit)) (now (learned .exit))) ⌝ }
 {
     parts::emptied(working, rows, learned)

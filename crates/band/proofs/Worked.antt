@@ -19,7 +19,8 @@ abbrev pelCode : ℕ → List ℕ
 pelCode p = bandCode (qPage 1) qWriter (pageAt 1 (new .table) (new .last)) (p ∷ [])
 
 two-codes : (p : ℕ) → p ≤ 1 → (pelCode p ≡ 0xAC ∷ 0x10 ∷ []) ⊎ (pelCode p ≡ 0x00 ∷ 0x00 ∷ [])
-unfolding written lastRow white after contextOf entryAt size sense taught placed move rowOf rise fall flip next fresh bits carried left byte due shifts pads cover finish bytes code pelAt pelsTo bandTo leftOf rightOf context
+unfolding written lastRow white after contextOf entryAt size sense taught placed move rowOf rise fall flip next fresh
+    bits carried left byte due shifts pads cover finish bytes code pelAt pelsTo bandTo leftOf rightOf context
 two-codes zero h = inl refl
 two-codes (suc zero) h = inr refl
 two-codes (suc (suc n)) h = absurd (omega arith)
@@ -28,7 +29,8 @@ one-pel : (c : List ℕ) → (c ≡ 0xAC ∷ 0x10 ∷ [] → ⊥) → (c ≡ 0x0
 unfolding written bandTo pelsTo
 one-pel c f g pels l e = go (two-codes (pelAt (rowAt 1 pels 0) 0) (pel-bit (rowAt 1 pels 0) 0))
   where
-    go : (pelCode (pelAt (rowAt 1 pels 0) 0) ≡ 0xAC ∷ 0x10 ∷ []) ⊎ (pelCode (pelAt (rowAt 1 pels 0) 0) ≡ 0x00 ∷ 0x00 ∷ []) → ⊥
+    go : (pelCode (pelAt (rowAt 1 pels 0) 0) ≡ 0xAC ∷ 0x10 ∷ []) ⊎ (pelCode (pelAt (rowAt 1 pels 0) 0) ≡ 0x00
+        ∷ 0x00 ∷ []) → ⊥
     go (inl k) = f (sym e ∙ k)
     go (inr k) = g (sym e ∙ k)
 
@@ -40,16 +42,42 @@ longer : (x y : ℕ) (c d : List ℕ) → length c ≡ x → length d ≡ y → 
 longer x y c d p q n e = n (sym p ∙ ap length e ∙ q)
 
 ac-11 : Holds (damaged 1 1 (0xAC ∷ 0x11 ∷ []))
-ac-11 = one-pel (0xAC ∷ 0x11 ∷ []) (apart 1 0x11 0x10 _ _ refl refl (λ e. omega arith)) (apart 0 0xAC 0 _ _ refl refl (λ e. omega arith))
+ac-11 = one-pel (0xAC ∷ 0x11 ∷ []) (apart 1 0x11 0x10 _ _ refl refl (λ e. omega arith))
+    (apart 0 0xAC 0 _ _ refl refl (λ e. omega arith))
 
 three-zeros : Holds (damaged 1 1 (0x00 ∷ 0x00 ∷ 0x00 ∷ []))
-three-zeros = one-pel (0 ∷ 0 ∷ 0 ∷ []) (longer 3 2 _ _ refl refl (λ e. omega arith)) (longer 3 2 _ _ refl refl (λ e. omega arith))
+three-zeros = one-pel (0 ∷ 0 ∷ 0 ∷ []) (longer 3 2 _ _ refl refl (λ e. omega arith))
+    (longer 3 2 _ _ refl refl (λ e. omega arith))
 
 none : Holds (damaged 1 1 [])
 none = one-pel [] (longer 0 2 _ _ refl refl (λ e. omega arith)) (longer 0 2 _ _ refl refl (λ e. omega arith))
 
 -- the single claim: every row of the table holds
 pub worked : All cases
-unfolding written lastRow white after contextOf entryAt size sense taught placed move rowOf rise fall flip next fresh bits carried left byte due shifts pads cover finish bytes code pelAt pelsTo bandTo leftOf rightOf context
-worked =
-    ((refl, refl), ((refl, refl), ((refl, refl), ((refl, refl), ((refl, refl), ((refl, refl), ((refl, refl), ((refl, refl), ((refl, refl), (refl, (refl, (refl, (refl, (refl, (refl, (ac-11, (three-zeros, (none, tt))))))))))))))))))
+unfolding written lastRow white after contextOf entryAt size sense taught placed move rowOf rise fall flip next fresh
+    bits carried left byte due shifts pads cover finish bytes code pelAt pelsTo bandTo leftOf rightOf context
+worked = (
+  (refl, refl),
+  (
+    (refl, refl),
+    (
+      (refl, refl),
+      (
+        (refl, refl),
+        (
+          (refl, refl),
+          (
+            (refl, refl),
+            (
+              (refl, refl),
+              (
+                (refl, refl),
+                ((refl, refl), (refl, (refl, (refl, (refl, (refl, (refl, (ac-11, (three-zeros, (none, tt)))))))))),
+              ),
+            ),
+          ),
+        ),
+      ),
+    ),
+  ),
+)

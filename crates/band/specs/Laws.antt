@@ -13,7 +13,8 @@ module _ (width : ℕ) where
   -- what each pel decided
   unfoldable pub decisions : Stage (qPage width) qWriter → List ℕ → List Decision
   decisions s [] = []
-  decisions s (p ∷ ps) = decision (size qScheme width (s .model)) (eqb p (sense qScheme width (s .model))) ∷ decisions (step (qPage width) qWriter s p) ps
+  decisions s (p ∷ ps) = decision (size qScheme width (s .model)) (eqb p (sense qScheme width (s .model)))
+      ∷ decisions (step (qPage width) qWriter s p) ps
 
 module _ (width rows : ℕ) (table last band : List ℕ) where
   -- where the band starts: the page's table and last row, and a new code

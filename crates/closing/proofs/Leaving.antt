@@ -18,7 +18,8 @@ use Rattle.desk.specs.declared.Found.the-variants.{At, Nothing}
 use Rattle.parts.specs.declared.Sought.the-variants.{Used, Learned}
 use Rattle.desk.specs.Desk.{Page, Place, Desk}
 use Rattle.parts.specs.Parts.{pagesOf, placesOf, deskOf, partsOf, Whole}
-use Rattle.desk.specs.Places.{noPage, unusedPage, freePlace, findBy, pageFound, placeFound, tableFound, freePlaceFound, isFound}
+use Rattle.desk.specs.Places.{noPage, unusedPage, freePlace, findBy, pageFound, placeFound, tableFound, freePlaceFound}
+use Rattle.desk.specs.Places.{isFound}
 use Rattle.parts.specs.Finding.{placeSought}
 use Rattle.parts.proofs.Lines.{page-in, find-places}
 use Rattle.parts.specs.Puts.{PagePut, PlacePut}
@@ -36,7 +37,8 @@ use Rattle.parts.specs.Replies.{doneBy, Serves}
 use Rattle.refusals.proofs.Refusing.{paged, accepts}
 use Rattle.closing.specs.Leaving.{reservedFound}
 
-pub none-reserved : (k : Key) (lines : List PlaceLine) → isFound (findBy (placeSought (Learned k)) lines 0) ≡ true → Nothing ≡ reservedFound k lines
+pub none-reserved : (k : Key) (lines : List PlaceLine) → isFound (findBy (placeSought (Learned k)) lines 0) ≡ true
+    → Nothing ≡ reservedFound k lines
 unfolding reservedFound
 none-reserved k lines e = rw e
 
@@ -56,7 +58,8 @@ module _ (d : Desk) (k : Key) where
   abandon-number = refl
 
 -- the desk after a place was put and the page cleared in its slot
-module _ (p : Parts) (w : Whole p) (k : Key) (i : ℕ) (f : pageFound (deskOf p) k ≡ At i) (between next : Book) (working rows learned : List (List ℕ))
+module _ (p : Parts) (w : Whole p) (k : Key) (i : ℕ) (f : pageFound (deskOf p) k ≡ At i) (between next : Book)
+    (working rows learned : List (List ℕ))
     (cleared : PagePut between (p .working) (p .rows) i unusedPage next working rows) where
   after : {found : Found} {place : Place} → PlacePut (p .book) (p .learned) found place between learned
       → deskOf (partsOf next working rows learned)
@@ -64,13 +67,15 @@ module _ (p : Parts) (w : Whole p) (k : Key) (i : ℕ) (f : pageFound (deskOf p)
   unfolding pagesAfter
   after q =
       ap₂ (λ (ps : List Page) (qs : List Place). record { pages = ps; places = qs })
-      (cleared .pages ∙ ap (λ (ls : List PageLine). set (pagesOf ls (p .working) (p .rows)) i unusedPage) (q .pages) ∙ rw f)
+      (cleared .pages ∙ ap (λ (ls : List PageLine). set (pagesOf ls (p .working) (p .rows)) i unusedPage) (q .pages)
+      ∙ rw f)
       (ap (λ (ls : List PlaceLine). placesOf ls learned) (cleared .places) ∙ q .places)
 
   -- ---- close: an open page of a lawful desk has its place
   pub close-done : (x : Reply) (place : Found) → lawful (deskOf p) ≡ true → number readBack (deskOf p) (closes k) ≡ 0
       → place ≡ findBy (placeSought (Used k)) (p .book .places) 0
-      → PlacePut (p .book) (p .learned) place (learnedPlace k (record { entries = getD (p .working) i [] })) between learned
+      → PlacePut (p .book) (p .learned) place (learnedPlace k (record { entries = getD (p .working) i [] }))
+      between learned
       → x ≡ doneBy 0 0 next → Serves p (closes k) (x .answer) (partsOf (x .book) working rows learned) []
   unfolding effect changed placesAfter stand learnedPlace
   close-done x place l e g q a =
@@ -83,13 +88,16 @@ module _ (p : Parts) (w : Whole p) (k : Key) (i : ℕ) (f : pageFound (deskOf p)
       put : place ≡ orFree (placeFound (deskOf p) k) (freePlaceFound (deskOf p))
       put =
           g ∙ sym (find-places p w (Used k))
-          ∙ ap (λ (b : Bool). cond b (placeFound (deskOf p) k) (freePlaceFound (deskOf p))) (sym (page-placed (deskOf p) k i l f))
+          ∙ ap (λ (b : Bool). cond b (placeFound (deskOf p) k) (freePlaceFound (deskOf p)))
+          (sym (page-placed (deskOf p) k i l f))
 
       table : record { entries = getD (p .working) i [] } ≡ pageOf (stand (deskOf p) k) .table
-      table = ap (λ (y : Page). y .table) (sym (page-in p w i)) ∙ ap (λ (h : Found). orElse (pageBy (deskOf p) h) noPage .table) (sym f)
+      table = ap (λ (y : Page). y .table) (sym (page-in p w i)) ∙ ap (λ (h : Found). orElse (pageBy (deskOf p) h)
+          noPage .table) (sym f)
 
   -- ---- abandon: a class with a table keeps it; a place that was only reserved is free
-  pub abandon-done : (x : Reply) (place : Found) → number readBack (deskOf p) (abandons k) ≡ 0 → place ≡ reservedFound k (p .book .places)
+  pub abandon-done : (x : Reply) (place : Found) → number readBack (deskOf p) (abandons k) ≡ 0
+      → place ≡ reservedFound k (p .book .places)
       → PlacePut (p .book) (p .learned) place freePlace between learned → x ≡ doneBy 0 0 next
       → Serves p (abandons k) (x .answer) (partsOf (x .book) working rows learned) []
   unfolding effect changed placesAfter reservedFound
@@ -97,7 +105,8 @@ module _ (p : Parts) (w : Whole p) (k : Key) (i : ℕ) (f : pageFound (deskOf p)
       accepts p (abandons k) x next working rows learned [] (page-whole (place-whole w q) cleared) e a
       (after q ∙ ap (λ (qs : List Place). record { pages = pagesAfter (deskOf p) k gone; places = qs })
       (ap (λ (h : Found). setAt h freePlace (deskOf p .places)) g
-      ∙ ap₂ (λ (t h : Found). setAt (cond (isFound t) Nothing h) freePlace (deskOf p .places)) (sym (find-places p w (Learned k))) (sym
+      ∙ ap₂ (λ (t h : Found). setAt (cond (isFound t) Nothing h) freePlace (deskOf p .places))
+      (sym (find-places p w (Learned k))) (sym
       (find-places p w (Used k)))
       ∙ go (isFound (tableFound (deskOf p) k)))) refl
     where

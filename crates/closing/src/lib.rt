@@ -29,7 +29,8 @@ pub fn close<'a>(
     key: Key,
 ) -> Reply
     requires { ⌜ Sized (now working) (now rows) (now learned) ⌝ }
-    ensures { λ r. ⌜ Serves (partsOf book (now (working .entry)) (now (rows .entry)) (now (learned .entry))) (closes key) (r .answer)
+    ensures { λ r. ⌜ Serves (partsOf book (now (working .entry)) (now (rows .entry)) (now (learned .entry)))
+        (closes key) (r .answer)
         (partsOf (r .book) (now (working .exit)) (now (rows .exit)) (now (learned .exit))) [] ⌝ }
 {
     let good = lawful::lawful_desk(book, working, rows, learned);
@@ -67,7 +68,8 @@ pub fn abandon<'a>(
     key: Key,
 ) -> Reply
     requires { ⌜ Sized (now working) (now rows) (now learned) ⌝ }
-    ensures { λ r. ⌜ Serves (partsOf book (now (working .entry)) (now (rows .entry)) (now (learned .entry))) (abandons key) (r .answer)
+    ensures { λ r. ⌜ Serves (partsOf book (now (working .entry)) (now (rows .entry)) (now (learned .entry)))
+        (abandons key) (r .answer)
         (partsOf (r .book) (now (working .exit)) (now (rows .exit)) (now (learned .exit))) [] ⌝ }
 {
     let good = lawful::lawful_desk(book, working, rows, learned);

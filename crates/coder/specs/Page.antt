@@ -6,7 +6,8 @@ use lib.ListN.{getD, set, length}
 use lib.Dec.{eqb}
 use Rattle.coder.specs.Writing.{Model}
 
--- What a coder brings: the context of the pel at x, from the pels of the row above and of this row; the size that an entry stands for;
+-- What a coder brings: the context of the pel at x, from the pels of the row above and of this row; the size that an
+-- entry stands for;
 -- the entry after a pel with a shift, expected or not. An entry's sense is its lowest bit.
 pub record Scheme : Type 0 where
   pub template : List ℕ → List ℕ → ℕ → ℕ
@@ -42,7 +43,8 @@ module _ (S : Scheme) (width : ℕ) where
 
   -- a row that is full becomes the row above
   unfoldable pub placed : List ℕ → List ℕ → List ℕ → Page
-  placed table above this = cond (eqb (length this) width) (record { table = table; above = this; this = [] }) (record { table = table; above = above; this = this })
+  placed table above this = cond (eqb (length this) width) (record { table = table; above = this; this = [] })
+      (record { table = table; above = above; this = this })
 
   -- the page after one pel more
   unfoldable pub move : Page → ℕ → Bool → Page

@@ -5,7 +5,8 @@ use mathlib.Core.Bool.{Bool}
 use mathlib.Core.List.{List, [], _∷_}
 use lib.Dec.{eqb}
 
--- A writer: a pel of the size q is put in as the expected one or not; was there a shift; the shifts so far; the code if the band ends here.
+-- A writer: a pel of the size q is put in as the expected one or not; was there a shift; the shifts so far; the code if
+-- the band ends here.
 pub record Writer : Type 1 where
   pub State : Type 0
   pub start : State
@@ -14,7 +15,8 @@ pub record Writer : Type 1 where
   pub count : State → ℕ
   pub code : State → List ℕ
 
--- A model: states that give the size and the pel expected, and that move on by the pel and by whether there was a shift. Tables, contexts
+-- A model: states that give the size and the pel expected, and that move on by the pel and by whether there was a
+-- shift. Tables, contexts
 -- and rows are one such model.
 pub record Model : Type 1 where
   pub State : Type 0

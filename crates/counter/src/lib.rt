@@ -140,7 +140,8 @@ pub extern "C" fn siftpebble_look(
     class: u64,
     out: &mut [u8],
 ) -> Answer
-    ensures { λ r. ⌜ Serves (now (desk .entry)) (looks (asKey school class) (now (out .entry))) r (now (desk .exit)) (now (out .exit)) ⌝ }
+    ensures { λ r. ⌜ Serves (now (desk .entry)) (looks (asKey school class) (now (out .entry))) r (now (desk .exit))
+        (now (out .exit)) ⌝ }
 {
     let r = asked_tables::looked(
         desk.book,
@@ -165,7 +166,8 @@ pub extern "C" fn siftpebble_write(
     pels: &[u8],
     out: &mut [u8],
 ) -> Answer
-    ensures { λ r. ⌜ Serves (now (desk .entry)) (writes (askOf school class rows) (now (pels .entry)) (now (out .entry))) r (now (desk .exit))
+    ensures { λ r. ⌜ Serves (now (desk .entry)) (writes (askOf school class rows) (now (pels .entry))
+        (now (out .entry))) r (now (desk .exit))
         (now (out .exit)) ⌝ }
 {
     let r = asked_bands::written(
@@ -193,7 +195,8 @@ pub extern "C" fn siftpebble_read(
     code: &[u8],
     out: &mut [u8],
 ) -> Answer
-    ensures { λ r. ⌜ Serves (now (desk .entry)) (reads (askOf school class rows) (now (code .entry)) (now (out .entry))) r (now (desk .exit))
+    ensures { λ r. ⌜ Serves (now (desk .entry)) (reads (askOf school class rows) (now (code .entry))
+        (now (out .entry))) r (now (desk .exit))
         (now (out .exit)) ⌝ }
 {
     let r = asked_bands::read(

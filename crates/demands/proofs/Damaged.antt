@@ -31,11 +31,13 @@ unfolding without refusal
 not-without n [] h = λ e. h (sym e)
 not-without n (r ∷ rs) h = go (eqb (r .number) n) refl (not-without n rs h)
   where
-    held : (b : Bool) → eqb (r .number) n ≡ false → refusal (without n rs) ≢ n → cond b (r .number) (refusal (without n rs)) ≢ n
+    held : (b : Bool) → eqb (r .number) n ≡ false → refusal (without n rs) ≢ n
+        → cond b (r .number) (refusal (without n rs)) ≢ n
     held true f ih e = no-way (sym (eq-eqb (r .number) n e) ∙ f)
     held false f ih e = ih e
 
-    go : (b : Bool) → eqb (r .number) n ≡ b → refusal (without n rs) ≢ n → refusal (cond b (without n rs) (r ∷ without n rs)) ≢ n
+    go : (b : Bool) → eqb (r .number) n ≡ b → refusal (without n rs) ≢ n
+        → refusal (cond b (without n rs) (r ∷ without n rs)) ≢ n
     go true f ih = ih
     go false f ih = held (r .holds) f ih
 
@@ -47,10 +49,12 @@ lastly (suc n) x = suc n
 last-ten : (rs : List Row) (x : Bool) → numbered rs ≡ true → refusal (rs ++ (row 10 x ∷ [])) ≡ lastly (refusal rs) x
 unfolding refusal
 last-ten [] x h = refl
-last-ten (r ∷ rs) x h = go (r .holds) (r .number) (both (not (eqb (r .number) 0)) (numbered rs) h .0) (last-ten rs x (both (not (eqb (r .number) 0))
+last-ten (r ∷ rs) x h = go (r .holds) (r .number) (both (not (eqb (r .number) 0)) (numbered rs) h .0)
+    (last-ten rs x (both (not (eqb (r .number) 0))
     (numbered rs) h .1))
   where
-    go : (b : Bool) (n : ℕ) → not (eqb n 0) ≡ true → refusal (rs ++ (row 10 x ∷ [])) ≡ lastly (refusal rs) x → cond b n (refusal (rs ++
+    go : (b : Bool) (n : ℕ) → not (eqb n 0) ≡ true → refusal (rs ++ (row 10 x ∷ [])) ≡ lastly (refusal rs) x
+        → cond b n (refusal (rs ++
         (row 10 x ∷ []))) ≡ lastly (cond b n (refusal rs)) x
     go true zero h ih = no-way (sym h)
     go true (suc n) h ih = refl
@@ -71,16 +75,19 @@ module _ (d : Desk) (ask : Ask) (code out : List ℕ) where
 
     number-is : r .answer .number ≡ lastly (otherwise d ask code out) (not (given found))
     unfolding tests without
-    number-is = answers d (reads ask code out) r after a ∙ last-ten (without 10 (tests readBack (reads ask code out) (stand d (ask .key)))) (not
+    number-is = answers d (reads ask code out) r after a
+        ∙ last-ten (without 10 (tests readBack (reads ask code out) (stand d (ask .key)))) (not
         (given found)) refl
 
     -- a read that answers 10 passes its other tests, and no band of that size would have been written so
     pub damaged : r .answer .number ≡ 10 → ((otherwise d ask code out) ≡ 0) × (Unwritten d ask code out)
     unfolding foundIn
     damaged e =
-        let t = is-ten (otherwise d ask code out) (not (given found)) (not-without 10 _ (λ z. absurd (omega arith))) (sym number-is ∙ e) in (
+        let t = is-ten (otherwise d ask code out) (not (given found)) (not-without 10 _ (λ z. absurd (omega arith)))
+        (sym number-is ∙ e) in (
           t .0,
-          subst (Right (p .width) (ask .rows) (p .table .entries) (p .last) code) (none-given found (not-false (given found) (t .1)))
+          subst (Right (p .width) (ask .rows) (p .table .entries) (p .last) code)
+              (none-given found (not-false (given found) (t .1)))
               (a .reader .right (p .width) (ask .rows) (p .table .entries) (p .last) code),
         )
 
@@ -89,7 +96,8 @@ module _ (d : Desk) (ask : Ask) (code out : List ℕ) where
     unfolding foundIn
     only-then e u =
         let f : found ≡ none
-        = right-found (p .width) (ask .rows) (p .table .entries) (p .last) code found (a .reader .right (p .width) (ask .rows) (p .table .entries)
+        = right-found (p .width) (ask .rows) (p .table .entries) (p .last) code found
+        (a .reader .right (p .width) (ask .rows) (p .table .entries)
         (p .last) code)
         ∙ sym (right-found (p .width) (ask .rows) (p .table .entries) (p .last) code none u) in
         number-is ∙ ap₂ lastly e (ap (λ (o : Option (List ℕ)). not (given o)) f)

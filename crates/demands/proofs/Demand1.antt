@@ -29,7 +29,8 @@ unfolding from isIn
 from-in n [] h = no-way (sym h)
 from-in n (m ∷ ms) h = go (eqb n m) h (from-in n ms)
   where
-    go : (b : Bool) → ltb 0 (length (cond b (m ∷ ms) (from n ms))) ≡ true → (ltb 0 (length (from n ms)) ≡ true → isIn n ms ≡ true) →
+    go : (b : Bool) → ltb 0 (length (cond b (m ∷ ms) (from n ms))) ≡ true → (ltb 0 (length (from n ms)) ≡ true
+        → isIn n ms ≡ true) →
         (b || isIn n ms) ≡ true
     go true h ih = refl
     go false h ih = ih h
@@ -43,7 +44,8 @@ in-from n k (m ∷ ms) h = go (eqb n m) h (in-from n k ms)
     later true e = refl
     later false e = e
 
-    go : (b : Bool) → isIn k (cond b (m ∷ ms) (from n ms)) ≡ true → (isIn k (from n ms) ≡ true → isIn k ms ≡ true) → (eqb k m || isIn k ms) ≡ true
+    go : (b : Bool) → isIn k (cond b (m ∷ ms) (from n ms)) ≡ true → (isIn k (from n ms) ≡ true → isIn k ms ≡ true)
+        → (eqb k m || isIn k ms) ≡ true
     go true h ih = h
     go false h ih = later (eqb k m) (ih h)
 
@@ -69,11 +71,13 @@ module _ (d : Desk) (c : Call) (r : Outcome) (after : List ℕ) (p : Allowed d c
   -- the number that is answered is that of the first test that holds, 0 where none does
   pub answers : r .answer .number ≡ refusal (tests (p .reader .finds) c (stand d (keyOf c)))
   unfolding number outcome
-  answers = ap (λ (o : Outcome). o .answer .number) (p .outcome) ∙ unless-number (refusal (tests (p .reader .finds) c (stand d (keyOf c)))) d _ refl
+  answers = ap (λ (o : Outcome). o .answer .number) (p .outcome) ∙ unless-number
+      (refusal (tests (p .reader .finds) c (stand d (keyOf c)))) d _ refl
 
   -- that number is 0 or stands in the table
   pub in-table : (r .answer .number ≡ 0) ⊎ (isIn (r .answer .number) order ≡ true)
-  in-table = rw answers (numbered (tests (p .reader .finds) c (stand d (keyOf c))) order (in-order (p .reader .finds) c (stand d (keyOf c))))
+  in-table = rw answers (numbered (tests (p .reader .finds) c (stand d (keyOf c))) order
+      (in-order (p .reader .finds) c (stand d (keyOf c))))
 
   -- A refused call changes no table and no open page.
   pub refused : r .answer .number ≢ 0 → Refused d c r after
@@ -84,7 +88,8 @@ module _ (d : Desk) (c : Call) (r : Outcome) (after : List ℕ) (p : Allowed d c
       o = done (effectOn (p .reader .finds) d c .length) (effectOn (p .reader .finds) d c .shifts)
           (changed d (keyOf c) (effectOn (p .reader .finds) d c .page) (effectOn (p .reader .finds) d c .learned))
 
-      go : (n : ℕ) → r ≡ unless n d o → after ≡ unlessLent n (lentTo c) (effectOn (p .reader .finds) d c .lent) → Refused d c r after
+      go : (n : ℕ) → r ≡ unless n d o → after ≡ unlessLent n (lentTo c) (effectOn (p .reader .finds) d c .lent)
+          → Refused d c r after
       go zero e l = absurd (h (ap (λ (o : Outcome). o .answer .number) e))
       go (suc n) e l =
           record {
@@ -100,7 +105,8 @@ module _ (d : Desk) (c : Call) (r : Outcome) (after : List ℕ) (p : Allowed d c
   alone h i j = refused h .lent ∙ rw (ne-eqb (r .answer .number) 9 i, ne-eqb (r .answer .number) 10 j)
 
   -- "no room" and "damaged" set all of the lent output to zero
-  pub all-zero : (r .answer .number ≡ 9) ⊎ (r .answer .number ≡ 10) → (length after ≡ length (lentTo c)) × ((i : ℕ) → getD after i 0 ≡ 0)
+  pub all-zero : (r .answer .number ≡ 9) ⊎ (r .answer .number ≡ 10) → (length after ≡ length (lentTo c))
+      × ((i : ℕ) → getD after i 0 ≡ 0)
   unfolding lentAfter cleared
   all-zero e = subst (λ (l : List ℕ). (length l ≡ length (lentTo c)) × ((i : ℕ) → getD l i 0 ≡ 0)) (sym (cleared-is e)) (
     length-replicate (length
@@ -118,7 +124,8 @@ module _ (d : Desk) (c : Call) (r : Outcome) (after : List ℕ) (p : Allowed d c
   unfolding outcome lent
   accepted e z i = (
     p .outcome ∙ ap (λ (n : ℕ). unless n d (on (effectOn (p .reader .finds) d c))) z ∙ ap on i,
-    p .lent ∙ ap (λ (n : ℕ). unlessLent n (lentTo c) (effectOn (p .reader .finds) d c .lent)) z ∙ ap (λ (f : Effect). f .lent) i,
+    p .lent ∙ ap (λ (n : ℕ). unlessLent n (lentTo c) (effectOn (p .reader .finds) d c .lent)) z
+        ∙ ap (λ (f : Effect). f .lent) i,
   )
     where
       on : Effect → Outcome

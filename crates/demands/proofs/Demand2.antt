@@ -45,10 +45,12 @@ length-front xs ys = omega (arith, length-append xs ys)
 
 pub front-again : (xs out : List ℕ) → front (length xs) (inFront xs out) ≡ xs
 unfolding front inFront
-front-again xs out = rw (le-leb (length xs) (length (xs ++ drop (length xs) out)) (length-front xs (drop (length xs) out))) (take-front xs (drop
+front-again xs out = rw (le-leb (length xs) (length (xs ++ drop (length xs) out))
+    (length-front xs (drop (length xs) out))) (take-front xs (drop
     (length xs) out))
 
-module _ (d : Desk) (ask : Ask) (pels out : List ℕ) (r : Outcome) (after : List ℕ) (a : Allowed d (writes ask pels out) r after)
+module _ (d : Desk) (ask : Ask) (pels out : List ℕ) (r : Outcome) (after : List ℕ)
+    (a : Allowed d (writes ask pels out) r after)
     (z : r .answer .number ≡ 0)
     (p : Page) (f : openPage d (ask .key) ≡ some p) where
   abbrev F : Finder
@@ -72,28 +74,38 @@ module _ (d : Desk) (ask : Ask) (pels out : List ℕ) (r : Outcome) (after : Lis
       let e : refusal ts ≡ 0 = zero-number in
       let w : Written = bandOf (pageOf s) (ask .rows) pels in
       let law : lawful d ≡ true = not-true (lawful d) (passed 12 ts refl e) in
-      let room = both (leb (length (w .code)) (length out)) (leb (length (w .code)) maxCode) (not-true _ (passed 9 ts refl e)) in
+      let room = both (leb (length (w .code)) (length out)) (leb (length (w .code)) maxCode)
+      (not-true _ (passed 9 ts refl e)) in
       let (o, l) = accepted d (writes ask pels out) r after a _ zero-number refl in
       record {
         desk-lawful = law;
         rows = not-true (within 1 (ask .rows) maxRows) (passed 6 ts refl e);
-        size = subst (λ (q : Page). length pels ≡ ask .rows * rowBytes (q .width)) page-is (eqb-true (length pels) (ask .rows * rowBytes
+        size = subst (λ (q : Page). length pels ≡ ask .rows * rowBytes (q .width)) page-is
+            (eqb-true (length pels) (ask .rows * rowBytes
             (pageOf s .width)) (not-true _ (passed-after 7 6 ts refl e)));
-        padded = subst (λ (q : Page). bandPadded (q .width) pels (ask .rows) ≡ true) page-is (not-true _ (passed 8 ts refl e));
-        short = subst (λ (q : Page). length (bandOf q (ask .rows) pels .code) ≤ maxCode) page-is (leb-true (length (w .code)) maxCode (room .1));
-        length = ap (λ (o : Outcome). o .answer .length) o ∙ ap (λ (q : Page). length (bandOf q (ask .rows) pels .code)) page-is;
-        shifts = ap (λ (o : Outcome). o .answer .shifts) o ∙ ap (λ (q : Page). bandOf q (ask .rows) pels .shifts) page-is;
+        padded = subst (λ (q : Page). bandPadded (q .width) pels (ask .rows) ≡ true) page-is
+            (not-true _ (passed 8 ts refl e));
+        short = subst (λ (q : Page). length (bandOf q (ask .rows) pels .code) ≤ maxCode) page-is
+            (leb-true (length (w .code)) maxCode (room .1));
+        length = ap (λ (o : Outcome). o .answer .length) o
+            ∙ ap (λ (q : Page). length (bandOf q (ask .rows) pels .code)) page-is;
+        shifts = ap (λ (o : Outcome). o .answer .shifts) o ∙ ap (λ (q : Page). bandOf q (ask .rows) pels .shifts)
+            page-is;
         code = l ∙ ap (λ (q : Page). inFront (bandOf q (ask .rows) pels .code) out) page-is;
-        page = ap (λ (o : Outcome). openPage (o .desk) (ask .key)) (a .outcome) ∙ call-leaves (a .reader) d law (writes ask pels out) zero-number .0
+        page = ap (λ (o : Outcome). openPage (o .desk) (ask .key)) (a .outcome) ∙ call-leaves (a .reader) d law
+            (writes ask pels out) zero-number .0
             ∙ ap (λ (q : Page). some (servedPage q (bandOf q (ask .rows) pels))) page-is;
       }
 
   code-is : (code d ask pels out r after a z p f) ≡ bandOf p (ask .rows) pels .code
   code-is = ap₂ front (wrote .length) (wrote .code) ∙ front-again (bandOf p (ask .rows) pels .code) out
 
-  module _ (octets : (i : ℕ) → getD pels i 0 ≤ 255) (e : Desk) (ask′ : Ask) (out′ : List ℕ) (q : Page) (g : openPage e (ask′ .key) ≡ some q)
-      (same : SameState p q) (law : lawful e ≡ true) (rows : ask .rows ≡ ask′ .rows) (way : q .state ≡ 2) (room : length pels ≤ length out′)
-      (r′ : Outcome) (after′ : List ℕ) (b : Allowed e (reads ask′ (code d ask pels out r after a z p f) out′) r′ after′) where
+  module _ (octets : (i : ℕ) → getD pels i 0 ≤ 255) (e : Desk) (ask′ : Ask) (out′ : List ℕ) (q : Page)
+      (g : openPage e (ask′ .key) ≡ some q)
+      (same : SameState p q) (law : lawful e ≡ true) (rows : ask .rows ≡ ask′ .rows) (way : q .state ≡ 2)
+      (room : length pels ≤ length out′)
+      (r′ : Outcome) (after′ : List ℕ) (b : Allowed e (reads ask′ (code d ask pels out r after a z p f) out′) r′
+      after′) where
     abbrev G : Finder
     G = b .reader .finds
 
@@ -108,9 +120,15 @@ module _ (d : Desk) (ask : Ask) (pels out : List ℕ) (r : Outcome) (after : Lis
     found : foundIn G q (ask′ .rows) (code d ask pels out r after a z p f) ≡ some pels
     unfolding foundIn bandOf
     found =
-        ap (λ (h : Finder). h (q .width) (ask′ .rows) (q .table .entries) (q .last) (code d ask pels out r after a z p f)) (one-reader (b .reader))
-        ∙ sym (right-found (q .width) (ask′ .rows) (q .table .entries) (q .last) (code d ask pels out r after a z p f) (some pels) (
-          record { size = wrote .size ∙ rw (same .width, rows); padded = rw (← same .width, ← rows) (wrote .padded); octets = octets },
+        ap (λ (h : Finder). h (q .width) (ask′ .rows) (q .table .entries) (q .last) (code d ask pels out r after a z p
+        f)) (one-reader (b .reader))
+        ∙ sym (right-found (q .width) (ask′ .rows) (q .table .entries) (q .last) (code d ask pels out r after a z p f)
+        (some pels) (
+          record {
+            size = wrote .size ∙ rw (same .width, rows);
+            padded = rw (← same .width, ← rows) (wrote .padded);
+            octets = octets;
+          },
           ap (λ (w : Written). w .code) (sym same-band) ∙ sym code-is,
         ))
 
@@ -134,7 +152,8 @@ module _ (d : Desk) (ask : Ask) (pels out : List ℕ) (r : Outcome) (after : Lis
         let within : within 1 (ask′ .rows) maxRows ≡ true = rw (← rows) (wrote .rows) in
         let long = le-ltb maxCode (length (code d ask pels out r after a z p f)) short in
         let roomy = le-ltb (length out′) (ask′ .rows * rowBytes (q .width)) fits in
-        by-page (λ s. refusal (tests G (reads ask′ (code d ask pels out r after a z p f) out′) s)) ∙ (rw (law, known, within, long, eq-eqb (q .state) 2 way, roomy, found))
+        by-page (λ s. refusal (tests G (reads ask′ (code d ask pels out r after a z p f) out′) s))
+        ∙ (rw (law, known, within, long, eq-eqb (q .state) 2 way, roomy, found))
 
     -- Read from that same state, they give the pels back.
     pub read-back : (ReadBack d ask pels out r after a z p f octets e ask′ out′ q g same law rows way room r′ after′ b)
@@ -142,21 +161,29 @@ module _ (d : Desk) (ask : Ask) (pels out : List ℕ) (r : Outcome) (after : Lis
     read-back =
         let w : Written = bandOf q (ask′ .rows) pels in
         let n : number G e (reads ask′ (code d ask pels out r after a z p f) out′) ≡ 0 = number-zero in
-        let i : effectOn G e (reads ask′ (code d ask pels out r after a z p f) out′) ≡ serves q w pels out′ = by-page (λ s. effect G (reads ask′ (code d ask pels out r after a z p f) out′) s) ∙ (rw found) in
+        let i : effectOn G e (reads ask′ (code d ask pels out r after a z p f) out′) ≡ serves q w pels out′ =
+        by-page (λ s. effect G (reads ask′ (code d ask pels out r after a z p f) out′) s) ∙ (rw found) in
         let (o, l) = accepted e (reads ask′ (code d ask pels out r after a z p f) out′) r′ after′ b _ n i in
         let k : r′ .answer .length ≡ length pels = ap (λ (x : Outcome). x .answer .length) o in
         record {
           accepted = ap (λ (x : Outcome). x .answer .number) o;
           length = k;
-          shifts = ap (λ (x : Outcome). x .answer .shifts) o ∙ ap (λ (v : Written). v .shifts) (sym same-band) ∙ sym (wrote .shifts);
+          shifts = ap (λ (x : Outcome). x .answer .shifts) o ∙ ap (λ (v : Written). v .shifts) (sym same-band)
+              ∙ sym (wrote .shifts);
           lent = l;
           again = ap₂ front k l ∙ front-again pels out′;
           state = (
             servedPage p (bandOf p (ask .rows) pels),
             servedPage q w,
             wrote .page,
-            ap (λ (x : Outcome). openPage (x .desk) (ask′ .key)) (b .outcome) ∙ call-leaves (b .reader) e law (reads ask′ (code d ask pels out r after a z p f) out′) n .0
+            ap (λ (x : Outcome). openPage (x .desk) (ask′ .key)) (b .outcome) ∙ call-leaves (b .reader) e law
+                (reads ask′ (code d ask pels out r after a z p f) out′) n .0
                 ∙ ap (λ (x : Effect). afterwards (openPage e (ask′ .key)) (x .page)) i,
-            record { width = same .width; table = ap (λ (v : Written). v .table) same-band; last = ap (λ (v : Written). v .last) same-band },
+            record {
+              width = same .width;
+              table = ap (λ (v : Written). v .table) same-band;
+              last =
+                  ap (λ (v : Written). v .last) same-band;
+            },
           );
         }

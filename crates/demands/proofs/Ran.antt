@@ -43,6 +43,7 @@ any-history es fs d d′ p q c =
     let s : calls calling fs ≡ calls calling (left reading (calls calling es)) = c
     ∙ ap (λ (l : List (Entry calling)). calls calling (serial calling l)) (a .answers) in (
       b .answers ∙ ap (run reading emptyDesk) s ∙ t .answers ∙ ap (serial calling) (sym (a .answers)),
-      (λ k. ap (λ (z : Desk). learnedTable z k) (b .ends ∙ ap (after reading emptyDesk) s) ∙ t .tables k ∙ ap (λ (z : Desk). learnedTable z k)
+      (λ k. ap (λ (z : Desk). learnedTable z k) (b .ends ∙ ap (after reading emptyDesk) s) ∙ t .tables k
+          ∙ ap (λ (z : Desk). learnedTable z k)
           (sym (a .ends))),
     )

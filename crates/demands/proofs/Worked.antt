@@ -1,4 +1,5 @@
--- Three classes take turns, worked out by the definitions: what each call answers, what is left in the order in which it is served,
+-- Three classes take turns, worked out by the definitions: what each call answers, what is left in the order in which
+-- it is served,
 -- that it then answers the same, and the learned tables at the end. Assumes nothing.
 use mathlib.Core.Path.{_≡_, refl}
 use mathlib.Core.List.{List, [], _∷_, _++_, map}
@@ -60,8 +61,10 @@ look k n = looks k (replicate n 9)
 abbrev Turn : Type 0
 Turn = Call × ℕ × ℕ × ℕ × List ℕ
 
--- the 24 calls. Class a writes P1 and P7 on its first page; b writes P2 between them, closes first, and its table is dropped. c has no room
--- for its band and is abandoned; then it reads P1's code, after one that is damaged. Meanwhile a's second page begins with the table that
+-- the 24 calls. Class a writes P1 and P7 on its first page; b writes P2 between them, closes first, and its table is
+-- dropped. c has no room
+-- for its band and is abandoned; then it reads P1's code, after one that is damaged. Meanwhile a's second page begins
+-- with the table that
 -- its first one learned: a look shows that table still while the page has gone on. b's second page is never closed.
 abbrev turns : List Turn
 turns =
@@ -104,7 +107,13 @@ asked ts = map (λ t. t .0) ts
 
 unfoldable seen : List (Entry calling) → List Turn
 seen [] = []
-seen (e ∷ es) = (e .call, e .output .answer .number, e .output .answer .length, e .output .answer .shifts, e .output .lent) ∷ seen es
+seen (e ∷ es) = (
+  e .call,
+  e .output .answer .number,
+  e .output .answer .length,
+  e .output .answer .shifts,
+  e .output .lent,
+) ∷ seen es
 
 -- the learned tables of a, b and c
 abbrev tables : Desk → Option Table × Option Table × Option Table
@@ -123,10 +132,15 @@ record Worked : Type 0 where
 
 -- computed: every definition that the run comes through is opened
 worked : Worked
-unfolding seen run after markOf left serial serialFrom servesAs waitsAs number outcome lent stand tests effect newPage servedPage
-    bandOf foundIn changed pagesAfter placesAfter learnedPlace reservedPlace refusal lentAfter all any apart noStray lawfulPage
-    lawfulPlace lawful zeroTable unusedPage freePlace emptyDesk findBy readBack writtenSo sameBytes search values before firstOf
-    written lastRow white hasRoom pelAt pelsTo bandTo rowPadded bandPadded leftOf rightOf context inFront cleared bits carried
-    octets.left byte due shifts pads cover finish bytes code rowOf rise fall flip next fresh contextOf entryAt size sense taught
+unfolding seen run after markOf left serial serialFrom servesAs waitsAs number outcome lent stand tests effect
+    newPage servedPage
+    bandOf foundIn changed pagesAfter placesAfter learnedPlace reservedPlace refusal lentAfter all any apart
+    noStray lawfulPage
+    lawfulPlace lawful zeroTable unusedPage freePlace emptyDesk findBy readBack writtenSo sameBytes search values
+    before firstOf
+    written lastRow white hasRoom pelAt pelsTo bandTo rowPadded bandPadded leftOf rightOf context inFront cleared
+    bits carried
+    octets.left byte due shifts pads cover finish bytes code rowOf rise fall flip next fresh contextOf entryAt size
+    sense taught
     placed move writing.after
 worked = record { answered = refl; served-in-order = refl; answered-again = refl; ends = refl; ends-again = refl }

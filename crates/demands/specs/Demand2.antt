@@ -25,7 +25,8 @@ pub record SameState (p q : Page) : Type 0 where
   pub last : p .last ≡ q .last
 
 -- ---- an accepted write
-module _ (d : Desk) (ask : Ask) (pels out : List ℕ) (r : Outcome) (after : List ℕ) (a : Allowed d (writes ask pels out) r after)
+module _ (d : Desk) (ask : Ask) (pels out : List ℕ) (r : Outcome) (after : List ℕ)
+    (a : Allowed d (writes ask pels out) r after)
     (z : r .answer .number ≡ 0)
     (p : Page) (f : openPage d (ask .key) ≡ some p) where
   -- what an accepted write gives: its sizes are lawful, the bytes of the Q-coder stand in the front of the buffer,
@@ -46,8 +47,10 @@ module _ (d : Desk) (ask : Ask) (pels out : List ℕ) (r : Outcome) (after : Lis
   code = front (r .answer .length) after
 
   -- read on a page in the same state, with room
-  module _ (octets : (i : ℕ) → getD pels i 0 ≤ 255) (e : Desk) (ask′ : Ask) (out′ : List ℕ) (q : Page) (g : openPage e (ask′ .key) ≡ some q)
-      (same : SameState p q) (law : lawful e ≡ true) (rows : ask .rows ≡ ask′ .rows) (way : q .state ≡ 2) (room : length pels ≤ length out′)
+  module _ (octets : (i : ℕ) → getD pels i 0 ≤ 255) (e : Desk) (ask′ : Ask) (out′ : List ℕ) (q : Page)
+      (g : openPage e (ask′ .key) ≡ some q)
+      (same : SameState p q) (law : lawful e ≡ true) (rows : ask .rows ≡ ask′ .rows) (way : q .state ≡ 2)
+      (room : length pels ≤ length out′)
       (r′ : Outcome) (after′ : List ℕ) (b : Allowed e (reads ask′ code out′) r′ after′) where
     -- what reading it back gives: the read is accepted and answers the rows' bytes and the same S, the pels are given
     -- back, and both pages are again in the same state
@@ -57,4 +60,5 @@ module _ (d : Desk) (ask : Ask) (pels out : List ℕ) (r : Outcome) (after : Lis
       pub shifts : r′ .answer .shifts ≡ r .answer .shifts
       pub lent : after′ ≡ inFront pels out′
       pub again : front (r′ .answer .length) after′ ≡ pels
-      pub state : (p₁ q₁ : Page) × (openPage (r .desk) (ask .key) ≡ some p₁) × (openPage (r′ .desk) (ask′ .key) ≡ some q₁) × SameState p₁ q₁
+      pub state : (p₁ q₁ : Page) × (openPage (r .desk) (ask .key) ≡ some p₁)
+          × (openPage (r′ .desk) (ask′ .key) ≡ some q₁) × SameState p₁ q₁

@@ -11,5 +11,6 @@ use Rattle.serial.specs.Run.{calling, stepOf, entryOf}
 -- a history: calls in a row, each with an outcome that its contract allows, on the desk that the call before it left
 pub data Ran : Desk → List (Entry calling) → Desk → Type 0 where
   begun : (d : Desk) → Ran d [] d
-  more : (d : Desk) (c : Call) (r : Outcome) (lent : List ℕ) (es : List (Entry calling)) (d′ : Desk) → Allowed d c r lent → Ran (r .desk) es d′
+  more : (d : Desk) (c : Call) (r : Outcome) (lent : List ℕ) (es : List (Entry calling)) (d′ : Desk)
+      → Allowed d c r lent → Ran (r .desk) es d′
       → Ran d (entryOf c (stepOf r lent) ∷ es) d′

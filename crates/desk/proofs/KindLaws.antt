@@ -17,7 +17,14 @@ use Rattle.desk.proofs.Passed.{passed}
 
 -- the same desk with another page open, or none
 abbrev pub seeing : Option Page → Stand → Stand
-seeing p s = record { sound = s .sound; page = p; learned = s .learned; pageFree = s .pageFree; placeFree = s .placeFree }
+seeing p s = record {
+  sound = s .sound;
+  page = p;
+  learned = s .learned;
+  pageFree = s .pageFree;
+  placeFree =
+      s .placeFree;
+}
 
 module _ (finds : Finder) where
   -- no test refuses it
@@ -31,25 +38,31 @@ module _ (finds : Finder) where
       (effect finds c s .learned ≡ stays)
   -- a band: a page before and after, the learned table as before
   KindLaw band c s =
-      (Passes c s → given (s .page) ≡ true) × (Passes c s → given (afterwards (s .page) (effect finds c s .page)) ≡ true)
+      (Passes c s → given (s .page) ≡ true) × (Passes c s → given (afterwards (s .page) (effect finds c s .page))
+      ≡ true)
       × (effect finds c s .learned ≡ stays)
   -- a close: the page is gone, its table is the learned one
   KindLaw closing c s =
-      (Passes c s → given (s .page) ≡ true) × (effect finds c s .page ≡ gone) × (effect finds c s .learned ≡ becomes (pageOf s .table))
+      (Passes c s → given (s .page) ≡ true) × (effect finds c s .page ≡ gone)
+      × (effect finds c s .learned ≡ becomes (pageOf s .table))
   -- an abandon: the page is gone, the learned table is as before
-  KindLaw abandoning c s = (Passes c s → given (s .page) ≡ true) × (effect finds c s .page ≡ gone) × (effect finds c s .learned ≡ stays)
+  KindLaw abandoning c s = (Passes c s → given (s .page) ≡ true) × (effect finds c s .page ≡ gone)
+      × (effect finds c s .learned ≡ stays)
   -- a look: nothing changes, and the page does not matter
   KindLaw looking c s =
       (effect finds c s .page ≡ stays) × (effect finds c s .learned ≡ stays)
-      × ((p : Option Page) → (tests finds c (seeing p s) ≡ tests finds c s) × (effect finds c (seeing p s) ≡ effect finds c s))
+      × ((p : Option Page) → (tests finds c (seeing p s) ≡ tests finds c s)
+      × (effect finds c (seeing p s) ≡ effect finds c s))
   -- a drop: no page, before or after
   KindLaw changing c s = (Passes c s → s .page ≡ none) × (effect finds c s .page ≡ stays)
 
   pub kind-law : (c : Call) (s : Stand) → KindLaw (kindOf c) c s
   unfolding KindLaw tests effect
   kind-law (opens ask) s = (λ e. none-given (s .page) (passed 3 (tests finds (opens ask) s) refl e), λ e. refl, refl)
-  kind-law (writes ask pels out) s = (λ e. not-true (given (s .page)) (passed 2 (tests finds (writes ask pels out) s) refl e), λ e. refl, refl)
-  kind-law (reads ask code out) s = (λ e. not-true (given (s .page)) (passed 2 (tests finds (reads ask code out) s) refl e), λ e. refl, refl)
+  kind-law (writes ask pels out) s =
+      (λ e. not-true (given (s .page)) (passed 2 (tests finds (writes ask pels out) s) refl e), λ e. refl, refl)
+  kind-law (reads ask code out) s =
+      (λ e. not-true (given (s .page)) (passed 2 (tests finds (reads ask code out) s) refl e), λ e. refl, refl)
   kind-law (closes k) s = (λ e. not-true (given (s .page)) (passed 2 (tests finds (closes k) s) refl e), refl, refl)
   kind-law (abandons k) s = (λ e. not-true (given (s .page)) (passed 2 (tests finds (abandons k) s) refl e), refl, refl)
   kind-law (drops k) s = (λ e. none-given (s .page) (passed 3 (tests finds (drops k) s) refl e), refl)

@@ -13,8 +13,10 @@ use Rattle.limits.specs.Limits.{maxWidth}
 use Rattle.desk.specs.declared.Key.{Key}
 use Rattle.desk.specs.Desk.{Page, Desk}
 use Rattle.desk.specs.declared.Found.the-variants.{At}
-use Rattle.desk.specs.Places.{isUsed, sameKey, isPageOf, isPlaceOf, findBy, isFound, pageFound, placeFound, noPage}
-use Rattle.desk.specs.Lawful.{within, all, any, lawfulKey, lawfulTable, noStray, lawfulPage, lawfulPlace, apart, samePages, samePlaces, pageHasPlace, placeHasPage, lawful}
+use Rattle.desk.specs.Places.{isUsed, sameKey, isPageOf, isPlaceOf, findBy, isFound, pageFound, placeFound}
+use Rattle.desk.specs.Places.{noPage}
+use Rattle.desk.specs.Lawful.{within, all, any, lawfulKey, lawfulTable, noStray, lawfulPage, lawfulPlace, apart}
+use Rattle.desk.specs.Lawful.{samePages, samePlaces, pageHasPlace, placeHasPage, lawful}
 
 pub within-both : (low n high : ℕ) → within low n high ≡ true → (low ≤ n) × (n ≤ high)
 within-both low n high e = let b = both (leb low n) (leb n high) e in (leb-true low n (b .0), leb-true n high (b .1))
@@ -32,18 +34,21 @@ module _ {A : Type 0} (test law : A → Bool) (none : A) where
       at : (n : ℕ) → j - b ≡ n → Good (getD (x ∷ xs) n none) → Good (getD (x ∷ xs) (j - b) none)
       at n e g = rw e g
 
-      go : (y : Bool) → test x ≡ y → cond y (At b) (findBy test xs (suc b)) ≡ At j → (findBy test xs (suc b) ≡ At j → (suc b ≤ j) × Good (getD xs
+      go : (y : Bool) → test x ≡ y → cond y (At b) (findBy test xs (suc b)) ≡ At j → (findBy test xs (suc b) ≡ At j
+          → (suc b ≤ j) × Good (getD xs
           (j - suc b) none))
           → (b ≤ j) × Good (getD (x ∷ xs) (j - b) none)
       go true t f r = let z : b ≡ j = cc in (omega arith, at 0 (omega arith) (both (law x) (all law xs) l .0, t))
       go false t f r = let z : suc b ≤ j = r f .0 in (omega arith, at (suc (j - suc b)) (omega arith) (r f .1))
 
-  pub at-found : (xs : List A) (i : ℕ) → all law xs ≡ true → findBy test xs 0 ≡ At i → (law (getD xs i none) ≡ true) × (test (getD xs i none) ≡ true)
+  pub at-found : (xs : List A) (i : ℕ) → all law xs ≡ true → findBy test xs 0 ≡ At i → (law (getD xs i none) ≡ true)
+      × (test (getD xs i none) ≡ true)
   unfolding Good
   at-found xs i l f = let e : i - 0 ≡ i = omega arith in rw e at (from xs 0 i l f .1)
 
 -- every element of a list
-pub all-get : {A : Type 0} (p : A → Bool) (s : List A) (i : ℕ) (z : A) → all p s ≡ true → p z ≡ true → p (getD s i z) ≡ true
+pub all-get : {A : Type 0} (p : A → Bool) (s : List A) (i : ℕ) (z : A) → all p s ≡ true → p z ≡ true
+    → p (getD s i z) ≡ true
 unfolding all
 all-get p [] i z h k = k
 all-get p (x ∷ s) zero z h k = both (p x) (all p s) h .0
@@ -60,17 +65,20 @@ pub record OpenPage (p : Page) : Type 0 where
 
 page-open : (p : Page) → lawfulPage p ≡ true → isUsed (p .state) ≡ true → OpenPage p
 unfolding lawfulPage
-page-open p l u = parts (within 1 (p .width) maxWidth) (lawfulTable (p .table .entries)) (noStray (p .width) (p .last)) (leb (p .state) 2)
+page-open p l u = parts (within 1 (p .width) maxWidth) (lawfulTable (p .table .entries)) (noStray (p .width) (p .last))
+    (leb (p .state) 2)
     (lawfulKey (p .key)) refl refl (rw u at l)
   where
-    parts : (w t s a k : Bool) → within 1 (p .width) maxWidth ≡ w → lawfulTable (p .table .entries) ≡ t → (a && (k && (w && (t && s)))) ≡ true
+    parts : (w t s a k : Bool) → within 1 (p .width) maxWidth ≡ w → lawfulTable (p .table .entries) ≡ t
+        → (a && (k && (w && (t && s)))) ≡ true
         → OpenPage p
     parts w t s a k p q e =
         let m = both k (w && (t && s)) (both a (k && (w && (t && s))) e .1) .1 in
         let x = within-both 1 _ maxWidth (p ∙ both w (t && s) m .0) in
         record { some = x .0; small = x .1; table = table-lawful _ (q ∙ both t s (both w (t && s) m .1) .0) }
 
-pub open-page : (d : Desk) (k : Key) (i : ℕ) → lawful d ≡ true → pageFound d k ≡ At i → OpenPage (getD (d .pages) i noPage)
+pub open-page : (d : Desk) (k : Key) (i : ℕ) → lawful d ≡ true → pageFound d k ≡ At i
+    → OpenPage (getD (d .pages) i noPage)
 unfolding lawful
 open-page d k i l f =
     let a = at-found (isPageOf k) lawfulPage noPage (d .pages) i (both _ _ (both _ _ l .0) .0) f in
@@ -96,15 +104,18 @@ unfolding any findBy
 found-any test [] b = refl
 found-any test (x ∷ xs) b = go (test x) (found-any test xs (suc b))
   where
-    go : (y : Bool) → isFound (findBy test xs (suc b)) ≡ any test xs → isFound (cond y (At b) (findBy test xs (suc b))) ≡ (y || any test xs)
+    go : (y : Bool) → isFound (findBy test xs (suc b)) ≡ any test xs → isFound (cond y (At b) (findBy test xs (suc b)))
+        ≡ (y || any test xs)
     go true ih = refl
     go false ih = ih
 
-pub page-placed : (d : Desk) (k : Key) (i : ℕ) → lawful d ≡ true → pageFound d k ≡ At i → isFound (placeFound d k) ≡ true
+pub page-placed : (d : Desk) (k : Key) (i : ℕ) → lawful d ≡ true → pageFound d k ≡ At i
+    → isFound (placeFound d k) ≡ true
 unfolding lawful
 page-placed d k i l f =
     let a = at-found (isPageOf k) (pageHasPlace (d .places)) noPage (d .pages) i
-    (third (all lawfulPage (d .pages) && all lawfulPlace (d .places)) (apart samePages (d .pages) && apart samePlaces (d .places)) (all
+    (third (all lawfulPage (d .pages) && all lawfulPlace (d .places)) (apart samePages (d .pages) && apart samePlaces
+    (d .places)) (all
     (pageHasPlace (d .places)) (d .pages))
     (all (placeHasPage (d .pages)) (d .places)) l) f in
     let p : Page = getD (d .pages) i noPage in
@@ -114,6 +125,7 @@ page-placed d k i l f =
     third : (a b c e : Bool) → (a && (b && (c && e))) ≡ true → c ≡ true
     third a b c e h = both c e (both b (c && e) (both a (b && (c && e)) h .1) .1) .0
 
-    has : (y : Bool) → y ≡ true → (j : Key) → j ≡ k → (not y || any (isPlaceOf j) (d .places)) ≡ true → any (isPlaceOf k) (d .places) ≡ true
+    has : (y : Bool) → y ≡ true → (j : Key) → j ≡ k → (not y || any (isPlaceOf j) (d .places)) ≡ true
+        → any (isPlaceOf k) (d .places) ≡ true
     has false u j e h = no-way (sym u)
     has true u j e h = rw e at h

@@ -23,19 +23,23 @@ testAfter m n [] = false
 testAfter m n (r ∷ rs) = cond (eqb (r .number) m) (testOf n rs) (testAfter m n rs)
 
 -- it did not hold, and no later test either
-first : (r : Row) (rs : List Row) → numbered (r ∷ rs) ≡ true → refusal (r ∷ rs) ≡ 0 → (r .holds ≡ false) × (refusal rs ≡ 0)
+first : (r : Row) (rs : List Row) → numbered (r ∷ rs) ≡ true → refusal (r ∷ rs) ≡ 0 → (r .holds ≡ false)
+    × (refusal rs ≡ 0)
 unfolding refusal
 first r rs n e = go (r .holds) refl e
   where
     go : (b : Bool) → r .holds ≡ b → cond b (r .number) (refusal rs) ≡ 0 → (r .holds ≡ false) × (refusal rs ≡ 0)
-    go true f e = no-way (sym (eq-eqb (r .number) 0 e) ∙ not-false (eqb (r .number) 0) (both (not (eqb (r .number) 0)) (numbered rs) n .0))
+    go true f e = no-way (sym (eq-eqb (r .number) 0 e) ∙ not-false (eqb (r .number) 0)
+        (both (not (eqb (r .number) 0)) (numbered rs) n .0))
     go false f e = (f, e)
 
 pub passed : (n : ℕ) (rs : List Row) → numbered rs ≡ true → refusal rs ≡ 0 → testOf n rs ≡ false
 passed n [] g e = refl
-passed n (r ∷ rs) g e = go (eqb (r .number) n) (first r rs g e) (λ f. passed n rs (both (not (eqb (r .number) 0)) (numbered rs) g .1) f)
+passed n (r ∷ rs) g e = go (eqb (r .number) n) (first r rs g e)
+    (λ f. passed n rs (both (not (eqb (r .number) 0)) (numbered rs) g .1) f)
   where
-    go : (b : Bool) → (r .holds ≡ false) × (refusal rs ≡ 0) → (refusal rs ≡ 0 → testOf n rs ≡ false) → cond b (r .holds) (testOf n rs) ≡ false
+    go : (b : Bool) → (r .holds ≡ false) × (refusal rs ≡ 0) → (refusal rs ≡ 0 → testOf n rs ≡ false)
+        → cond b (r .holds) (testOf n rs) ≡ false
     go true p ih = p .0
     go false p ih = ih (p .1)
 

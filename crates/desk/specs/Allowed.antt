@@ -1,4 +1,5 @@
--- What a call may answer, which desk it may leave, and which bytes in its lent buffer: the one statement of every call. Assumes nothing.
+-- What a call may answer, which desk it may leave, and which bytes in its lent buffer: the one statement of every call.
+-- Assumes nothing.
 use mathlib.Core.Path.{_≡_}
 use Prim.Native.Nat.{ℕ, zero, suc}
 use mathlib.Core.List.{List}
@@ -49,13 +50,15 @@ module _ (finds : Finder) (d : Desk) (c : Call) where
 
   -- the answer and the desk after it
   unfoldable pub outcome : Outcome
-  outcome = unless number d (done (effectOn .length) (effectOn .shifts) (changed d (keyOf c) (effectOn .page) (effectOn .learned)))
+  outcome = unless number d (done (effectOn .length) (effectOn .shifts) (changed d (keyOf c) (effectOn .page)
+      (effectOn .learned)))
 
   -- the lent buffer after it (empty where none is lent)
   unfoldable pub lent : List ℕ
   lent = unlessLent number (lentTo c) (effectOn .lent)
 
--- The answer, the desk and the lent buffer are those, by what a right reader finds in a code. (There is one right reader: any two find the same.)
+-- The answer, the desk and the lent buffer are those, by what a right reader finds in a code. (There is one right
+-- reader: any two find the same.)
 pub record Allowed (d : Desk) (c : Call) (r : Outcome) (after : List ℕ) : Type 0 where
   pub reader : Reader
   pub outcome : r ≡ outcome (reader .finds) d c

@@ -36,7 +36,8 @@ lentTo (abandons k) = []
 lentTo (drops k) = []
 lentTo (looks k out) = out
 
--- A page's own calls are its open, its bands and its close or abandon; a look or drop of the same key is not one of them.
+-- A page's own calls are its open, its bands and its close or abandon; a look or drop of the same key is not one of
+-- them.
 abbrev pub kindOf : Call → Kind
 kindOf (opens ask) = opening
 kindOf (writes ask pels out) = band

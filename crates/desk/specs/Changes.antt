@@ -7,7 +7,8 @@ use Rattle.desk.specs.declared.Key.{Key}
 use Rattle.desk.specs.Desk.{Page, Place, Desk}
 use Rattle.desk.specs.declared.Found.{Found}
 use Rattle.desk.specs.declared.Found.the-variants.{At, Nothing}
-use Rattle.desk.specs.Places.{zeroTable, unusedPage, freePlace, pageFound, placeFound, tableFound, freePageFound, freePlaceFound, isFound}
+use Rattle.desk.specs.Places.{zeroTable, unusedPage, freePlace, pageFound, placeFound, tableFound, freePageFound}
+use Rattle.desk.specs.Places.{freePlaceFound, isFound}
 use Rattle.desk.specs.Effects.{Change, stays, gone, becomes}
 
 -- a place that is taken by a class with a learned table
@@ -42,7 +43,8 @@ placesAfter d k stays stays = d .places
 placesAfter d k gone stays = cond (isFound (tableFound d k)) (d .places) (setAt (placeFound d k) freePlace (d .places))
 -- a page that is opened now, and whose class has no table
 placesAfter d k (becomes p) stays =
-    cond (isFound (pageFound d k) || isFound (tableFound d k)) (d .places) (setAt (freePlaceFound d) (reservedPlace k) (d .places))
+    cond (isFound (pageFound d k) || isFound (tableFound d k)) (d .places) (setAt (freePlaceFound d) (reservedPlace k)
+    (d .places))
 
 -- the desk after a change of the key's page and of its class's learned table
 unfoldable pub changed : Desk → Key → Change Page → Change Table → Desk

@@ -58,7 +58,13 @@ servedPage p w =
 -- a band: bytes in the front of the buffer, the rest kept; S; the page goes on
 abbrev pub serves : Page → Written → List ℕ → List ℕ → Effect
 serves p w bytes out =
-    record { length = length bytes; shifts = w .shifts; lent = inFront bytes out; page = becomes (servedPage p w); learned = stays }
+    record {
+      length = length bytes;
+      shifts = w .shifts;
+      lent = inFront bytes out;
+      page = becomes (servedPage p w);
+      learned = stays;
+    }
 
 module _ (finds : Finder) where
   -- the band that a read finds
@@ -70,7 +76,8 @@ module _ (finds : Finder) where
   -- working table = the class's learned table, or the fresh one
   effect (opens ask) s = does (becomes (newPage ask (orElse (s .learned) freshTable))) stays
   -- the code in the front of the buffer
-  effect (writes ask pels out) s = let w : Written = bandOf (pageOf s) (ask .rows) pels in serves (pageOf s) w (w .code) out
+  effect (writes ask pels out) s = let w : Written = bandOf (pageOf s) (ask .rows) pels in
+      serves (pageOf s) w (w .code) out
   -- the rows in the front of the buffer
   effect (reads ask code out) s =
       let rows : List ℕ = bandIn (pageOf s) (ask .rows) code in
@@ -83,4 +90,11 @@ module _ (finds : Finder) where
   effect (drops k) s = does stays gone
   -- the 128 bytes of the learned table in the front of the buffer, the rest kept
   effect (looks k out) s =
-      record { length = contexts; shifts = 0; lent = inFront (orElse (s .learned) noTable .entries) out; page = stays; learned = stays }
+      record {
+        length = contexts;
+        shifts = 0;
+        lent = inFront (orElse (s .learned) noTable .entries) out;
+        page =
+            stays;
+        learned = stays;
+      }

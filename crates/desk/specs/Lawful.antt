@@ -50,14 +50,18 @@ noStray width last = rowPadded width last && isZero (drop (rowBytes width) last)
 unfoldable pub lawfulPage : Page → Bool
 lawfulPage p =
     cond (isUsed (p .state))
-    (leb (p .state) 2 && (lawfulKey (p .key) && (within 1 (p .width) maxWidth && (lawfulTable (p .table .entries) && noStray (p .width) (p .last)))))
+    (leb (p .state) 2
+    && (lawfulKey (p .key) && (within 1 (p .width) maxWidth && (lawfulTable (p .table .entries)
+    && noStray (p .width) (p .last)))))
     (sameKey (p .key) noKey && (eqb (p .width) 0 && (isZero (p .table .entries) && isZero (p .last))))
 
--- a used place has a lawful key; a learned table's indexes are at most 29; a reserved place's table, and a free place, are zero
+-- a used place has a lawful key; a learned table's indexes are at most 29; a reserved place's table, and a free place,
+-- are zero
 unfoldable pub lawfulPlace : Place → Bool
 lawfulPlace q =
     cond (isUsed (q .state))
-    (leb (q .state) 2 && (lawfulKey (q .key) && cond (eqb (q .state) 2) (lawfulTable (q .table .entries)) (isZero (q .table .entries))))
+    (leb (q .state) 2 && (lawfulKey (q .key) && cond (eqb (q .state) 2) (lawfulTable (q .table .entries))
+    (isZero (q .table .entries))))
     (sameKey (q .key) noKey && isZero (q .table .entries))
 
 -- both pages are open, under one key

@@ -7,10 +7,12 @@ use Rattle.desk.specs.declared.Key.{Key}
 use Rattle.desk.specs.Desk.{Page, Desk}
 use Rattle.desk.specs.declared.Found.{Found}
 use Rattle.desk.specs.declared.Found.the-variants.{At, Nothing}
-use Rattle.desk.specs.Places.{noPage, pageFound, tableFound, freePageFound, freePlaceFound, isFound, pageAt, placeAt}
+use Rattle.desk.specs.Places.{noPage, pageFound, tableFound, freePageFound, freePlaceFound, isFound, pageAt}
+use Rattle.desk.specs.Places.{placeAt}
 use Rattle.desk.specs.Lawful.{lawful}
 
--- whether the desk is lawful; the key's open page and its class's learned table; whether a further page and a further place are free
+-- whether the desk is lawful; the key's open page and its class's learned table; whether a further page and a further
+-- place are free
 pub record Stand : Type 0 where
   pub sound : Bool
   pub page : Option Page

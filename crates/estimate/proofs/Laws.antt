@@ -1,4 +1,5 @@
--- What holds of every row: its value is 1 to AC1 hex, and the next entries of a lawful entry are lawful. Assumes nothing.
+-- What holds of every row: its value is 1 to AC1 hex, and the next entries of a lawful entry are lawful. Assumes
+-- nothing.
 use mathlib.Core.Path.{_≡_, sym, ap, subst}
 use mathlib.Core.Logic.{_≢_, _⊎_, inl, inr}
 use Prim.Native.Nat.{ℕ, zero, _+_, _-_, _*_, _/_, _%_, _≤_, _<_}
@@ -13,7 +14,8 @@ use borrow.Author.Tests.{eq-eqb, ne-eqb}
 use Rattle.ground.proofs.Tests.{by-cond, neqb→ne, same?}
 use Rattle.ground.proofs.Tables.{at-each, and-left, and-right}
 use Rattle.limits.specs.Limits.{contexts}
-use Rattle.estimate.specs.Estimate.{rows, rowOf, rise, fall, flip, next, indexOf, senseOf, fresh, LawfulEntry, LawfulTable}
+use Rattle.estimate.specs.Estimate.{rows, rowOf, rise, fall, flip, next, indexOf, senseOf, fresh, LawfulEntry}
+use Rattle.estimate.specs.Estimate.{LawfulTable}
 
 -- ---- the values
 inRange : ℕ → ℕ → Bool
@@ -24,7 +26,12 @@ pub record Sized (q : ℕ) : Type 0 where
   pub small : q ≤ 0xAC1
 
 sized-by : (q : ℕ) → T (leb 1 q && leb q 0xAC1) → Sized q
-sized-by q t = record { some = leb→le 1 q (and-left (leb 1 q) (leb q 0xAC1) t); small = leb→le q 0xAC1 (and-right (leb 1 q) (leb q 0xAC1) t) }
+sized-by q t =
+    record {
+      some = leb→le 1 q (and-left (leb 1 q) (leb q 0xAC1) t);
+      small =
+          leb→le q 0xAC1 (and-right (leb 1 q) (leb q 0xAC1) t);
+    }
 
 pub row-sized : (e : ℕ) → Sized (rowOf e)
 unfolding rowOf inRange
@@ -32,7 +39,8 @@ row-sized e = go (decLt (indexOf e) 30)
   where
     go : Dec (indexOf e < 30) → Sized (getD rows (indexOf e) 1)
     go (yes h) = sized-by (getD rows (indexOf e) 1) (at-each inRange 1 rows tt (indexOf e) h)
-    go (no h) = subst Sized (sym (List·getD-eq-default rows 1 {n = indexOf e} (omega arith))) (record { some = omega arith; small = omega arith })
+    go (no h) = subst Sized (sym (List·getD-eq-default rows 1 {n = indexOf e} (omega arith)))
+        (record { some = omega arith; small = omega arith })
 
 -- ---- the next entries
 rise-lawful : (e : ℕ) → LawfulEntry (next true e)
@@ -79,7 +87,8 @@ fall-small i =
 
 pub next-fall : (e f : ℕ) → f ≡ 2 * fall (e / 2) → (e / 2 ≡ 0 → ⊥) → (f ≤ e) × (e - f ≡ next false e)
 unfolding next flip
-next-fall e f h k = let l : fall (e / 2) ≤ e / 2 = fall-small (e / 2) in (omega arith, rw (ne-eqb (e / 2) 0 k) (omega arith))
+next-fall e f h k = let l : fall (e / 2) ≤ e / 2 = fall-small (e / 2) in
+    (omega arith, rw (ne-eqb (e / 2) 0 k) (omega arith))
 
 -- ---- tables
 -- A fresh table has 128 contexts, every one index 0 and sense 0.

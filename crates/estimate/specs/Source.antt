@@ -3,7 +3,8 @@ use Prim.Native.Nat.{ℕ, zero, suc, _-_, _*_}
 use mathlib.Core.List.{List, [], _∷_}
 use Rattle.estimate.specs.Estimate.{rowOf, entryOf, rise, fall, flip}
 
--- a row there: its value, the next rows after the expected and after the unexpected pel, and whether the sense is switched (1) then
+-- a row there: its value, the next rows after the expected and after the unexpected pel, and whether the sense is
+-- switched (1) then
 pub record Row : Type 0 where
   pub size : ℕ
   pub up : ℕ

@@ -21,7 +21,8 @@ impl Table {
     }
 }
 
-// The value Q of an entry's row. A match, and not an array, so that the values lie in constant memory and no pel copies them;
+// The value Q of an entry's row. A match, and not an array, so that the values lie in constant memory and no pel copies
+// them;
 // over five bits, all of whose numbers have an arm, so that no pel asks whether its entry is in the table.
 pub fn row_of(e: u8) -> u64
     requires { ⌜ LawfulEntry e ⌝ }
@@ -64,7 +65,8 @@ pub fn row_of(e: u8) -> u64
     }
 }
 
-// The falls of the thirty rows, two bits for each, row 0 in the lowest: nobody can foretell an unexpected pel, and so no pel branches on its row.
+// The falls of the thirty rows, two bits for each, row 0 in the lowest: nobody can foretell an unexpected pel, and so
+// no pel branches on its row.
 const FALLS: u64 = 0x0BBBAAAAAAAA9554;
 
 // How far an entry falls after an unexpected pel: twice the index's fall.
@@ -76,7 +78,8 @@ fn fall_of(i: u8) -> u8
     2 * (fall as u8)
 }
 
-// The entry after a renormalisation: on the expected pel the index rises, on the other it falls, and at row 0 the sense flips.
+// The entry after a renormalisation: on the expected pel the index rises, on the other it falls, and at row 0 the sense
+// flips.
 pub fn next_entry(e: u8, expected: bool) -> u8
     requires { ⌜ LawfulEntry e ⌝ }
     ensures { λ r. ⌜ r ≡ next expected e ⌝ }

@@ -1,4 +1,5 @@
--- How a code goes on from a state, whatever is coded next: the settled bytes stay, the code's value lies in the state's interval, the bytes are
+-- How a code goes on from a state, whatever is coded next: the settled bytes stay, the code's value lies in the state's
+-- interval, the bytes are
 -- lawful, and none is missing or in vain.
 -- All by going back from the end, one small step at a time; fractions are compared multiplied out. Assumes nothing.
 use mathlib.Core.Path.{_≡_, refl, sym, ap, _∙_, subst}
@@ -21,10 +22,13 @@ use Rattle.octets.proofs.Ending.{Filled, filled, fit-pad, rest-last}
 use Rattle.exact.specs.Value.{LawfulBytes, need, value, places}
 use Rattle.exact.proofs.Value.{value-one, value-cons, places-cons, head-le}
 use Rattle.exact.proofs.End.{Tail, tail-last}
-use Rattle.exact.proofs.Back.{half-floor, half-prefix, half-roof, half-roof-pad, upper-floor, upper-prefix, lower-roof, byte-floor, byte-prefix, byte-roof, stuffed}
+use Rattle.exact.proofs.Back.{half-floor, half-prefix, half-roof, half-roof-pad, upper-floor, upper-prefix}
+use Rattle.exact.proofs.Back.{lower-roof, byte-floor, byte-prefix, byte-roof, stuffed}
 
--- From w on, the code `all` goes on with b, which is the held byte or one more, and then bs; they cover n bits and none is in vain.
--- floor and roof: the value of b and bs lies in w's interval. prefix: a part of bs that is not empty falls short by less than its last unit.
+-- From w on, the code `all` goes on with b, which is the held byte or one more, and then bs; they cover n bits and none
+-- is in vain.
+-- floor and roof: the value of b and bs lies in w's interval. prefix: a part of bs that is not empty falls short by
+-- less than its last unit.
 pub record Ahead (w : Registers) (all : List ℕ) (n : ℕ) : Type 0 where
   pub b : ℕ
   pub bs : List ℕ
@@ -37,14 +41,20 @@ pub record Ahead (w : Registers) (all : List ℕ) (n : ℕ) : Type 0 where
   pub covers : n ≤ places b bs
   pub wanted : need b bs ≤ n
   pub floor : (w .held * unit (w .until) + w .interval .low) * 2 ^ places b bs ≤ value (b ∷ bs) * unit (w .until)
-  pub roof : value (b ∷ bs) * unit (w .until) < (w .held * unit (w .until) + w .interval .low + w .interval .width) * 2 ^ places b bs
-  pub prefix : (k : ℕ) → (w .held * unit (w .until) + w .interval .low) * 2 ^ places b (take (suc k) bs) < (value (b ∷ take (suc k) bs) + 1) * unit (w .until)
+  pub roof : value (b ∷ bs) * unit (w .until) < (w .held * unit (w .until) + w .interval .low + w .interval .width) * 2
+      ^ places b bs
+  pub prefix : (k : ℕ) → (w .held * unit (w .until) + w .interval .low) * 2 ^ places b (take (suc k) bs) <
+      (value (b ∷ take (suc k) bs) + 1) * unit (w .until)
 
 -- ---- a step back that leaves the bytes as they are: the bounds are all that changes
-module _ (w : Registers) (j : Interval) (t : ℕ) (all : List ℕ) (n : ℕ) (i : Ahead (record { interval = j; until = t; held = w .held; settled = w .settled }) all n) where
-  ahead-by : (w .held * unit (w .until) + w .interval .low) * 2 ^ places (i .b) (i .bs) ≤ value (i .b ∷ i .bs) * unit (w .until)
-      → value (i .b ∷ i .bs) * unit (w .until) < (w .held * unit (w .until) + w .interval .low + w .interval .width) * 2 ^ places (i .b) (i .bs)
-      → ((k : ℕ) → (w .held * unit (w .until) + w .interval .low) * 2 ^ places (i .b) (take (suc k) (i .bs)) < (value (i .b ∷ take (suc k) (i .bs)) + 1) * unit (w .until))
+module _ (w : Registers) (j : Interval) (t : ℕ) (all : List ℕ) (n : ℕ)
+    (i : Ahead (record { interval = j; until = t; held = w .held; settled = w .settled }) all n) where
+  ahead-by : (w .held * unit (w .until) + w .interval .low) * 2 ^ places (i .b) (i .bs) ≤ value (i .b ∷ i .bs) *
+      unit (w .until)
+      → value (i .b ∷ i .bs) * unit (w .until) < (w .held * unit (w .until) + w .interval .low + w .interval .width) *
+      2 ^ places (i .b) (i .bs)
+      → ((k : ℕ) → (w .held * unit (w .until) + w .interval .low) * 2 ^ places (i .b) (take (suc k) (i .bs)) <
+      (value (i .b ∷ take (suc k) (i .bs)) + 1) * unit (w .until))
       → Ahead w all n
   ahead-by floor roof prefix =
       record {
@@ -68,24 +78,33 @@ unit-before w r = unit-pred (w .until) (r .wait) (omega (arith, r .fit .few))
 
 pub ahead-double : (w : Registers) (all : List ℕ) (n : ℕ) → Rest w → Ahead (double w) all n → Ahead w all n
 ahead-double w all n r i =
-    ahead-by w _ _ all n i (half-floor (w .held) (unit (w .until)) (unit (w .until - 1)) (w .interval .low) _ _ (unit-before w r) (i .floor))
-    (half-roof (w .held) (unit (w .until)) (unit (w .until - 1)) (w .interval .low) (w .interval .width) _ _ (unit-before w r) (i .roof))
-    (λ k. half-prefix (w .held) (unit (w .until)) (unit (w .until - 1)) (w .interval .low) _ _ (unit-before w r) (i .prefix k))
+    ahead-by w _ _ all n i (half-floor (w .held) (unit (w .until)) (unit (w .until - 1)) (w .interval .low) _ _
+    (unit-before w r) (i .floor))
+    (half-roof (w .held) (unit (w .until)) (unit (w .until - 1)) (w .interval .low) (w .interval .width) _ _
+    (unit-before w r) (i .roof))
+    (λ k. half-prefix (w .held) (unit (w .until)) (unit (w .until - 1)) (w .interval .low) _ _ (unit-before w r)
+    (i .prefix k))
 
 ahead-pad : (w : Registers) (all : List ℕ) (n : ℕ) → Rest w → Ahead (pad w) all n → Ahead w all n
 ahead-pad w all n r i =
-    ahead-by w _ _ all n i (half-floor (w .held) (unit (w .until)) (unit (w .until - 1)) (w .interval .low) _ _ (unit-before w r) (i .floor))
-    (half-roof-pad (w .held) (unit (w .until)) (unit (w .until - 1)) (w .interval .low) (w .interval .width) _ _ (unit-before w r) (i .roof))
-    (λ k. half-prefix (w .held) (unit (w .until)) (unit (w .until - 1)) (w .interval .low) _ _ (unit-before w r) (i .prefix k))
+    ahead-by w _ _ all n i (half-floor (w .held) (unit (w .until)) (unit (w .until - 1)) (w .interval .low) _ _
+    (unit-before w r) (i .floor))
+    (half-roof-pad (w .held) (unit (w .until)) (unit (w .until - 1)) (w .interval .low) (w .interval .width) _ _
+    (unit-before w r) (i .roof))
+    (λ k. half-prefix (w .held) (unit (w .until)) (unit (w .until - 1)) (w .interval .low) _ _ (unit-before w r)
+    (i .prefix k))
 
-pub ahead-upper : (q : ℕ) (w : Registers) (all : List ℕ) (n : ℕ) → q ≤ w .interval .width → Ahead (upper q w) all n → Ahead w all n
+pub ahead-upper : (q : ℕ) (w : Registers) (all : List ℕ) (n : ℕ) → q ≤ w .interval .width → Ahead (upper q w) all n
+    → Ahead w all n
 ahead-upper q w all n h i =
     ahead-by w _ _ all n i (upper-floor q (w .held * unit (w .until)) (w .interval .low) _ _ (i .floor))
     (subst (λ (x : ℕ). value (i .b ∷ i .bs) * unit (w .until) < x * 2 ^ places (i .b) (i .bs)) (omega arith) (i .roof))
     (λ k. upper-prefix q (w .held * unit (w .until)) (w .interval .low) _ _ (i .prefix k))
 
-pub ahead-lower : (q : ℕ) (w : Registers) (all : List ℕ) (n : ℕ) → q ≤ w .interval .width → Ahead (lower q w) all n → Ahead w all n
-ahead-lower q w all n h i = ahead-by w _ _ all n i (i .floor) (lower-roof q (w .held * unit (w .until)) (w .interval .low) (w .interval .width) _ _ h (i .roof)) (i .prefix)
+pub ahead-lower : (q : ℕ) (w : Registers) (all : List ℕ) (n : ℕ) → q ≤ w .interval .width → Ahead (lower q w) all n
+    → Ahead w all n
+ahead-lower q w all n h i = ahead-by w _ _ all n i (i .floor) (lower-roof q (w .held * unit (w .until))
+    (w .interval .low) (w .interval .width) _ _ h (i .roof)) (i .prefix)
 
 -- ---- a byte back
 need-some : (b d : ℕ) (ds : List ℕ) → 1 ≤ need b (d ∷ ds)
@@ -110,7 +129,8 @@ pub byte-settled : (w : Registers) → byte w .settled ≡ w .settled ++ (carrie
 unfolding byte
 byte-settled w = refl
 
-module _ (w : Registers) (all : List ℕ) (n : ℕ) (z : w .until ≡ 0) (m : Byte w) (i : Ahead (byte w) all (n - byte w .until)) where
+module _ (w : Registers) (all : List ℕ) (n : ℕ) (z : w .until ≡ 0) (m : Byte w)
+    (i : Ahead (byte w) all (n - byte w .until)) where
   abbrev B : ℕ
   B = carried (w .held) (w .interval .low)
 
@@ -123,16 +143,21 @@ module _ (w : Registers) (all : List ℕ) (n : ℕ) (z : w .until ≡ 0) (m : By
   due-unit : unit (w .until) ≡ 16777216
   due-unit = ap unit z ∙ unit-zero
 
-  short : (k : ℕ) → (byte w .held * u + byte w .interval .low) * 2 ^ places (i .b) (take k (i .bs)) < (value (i .b ∷ take k (i .bs)) + 1) * u
+  short : (k : ℕ) → (byte w .held * u + byte w .interval .low) * 2 ^ places (i .b) (take k (i .bs)) <
+      (value (i .b ∷ take k (i .bs)) + 1) * u
   unfolding places
   short zero =
-      subst (λ (x : ℕ). (byte w .held * u + byte w .interval .low) * 1 < (x + 1) * u) (sym (value-one (i .b))) (omega (arith, m .part, mul-le-mul-right u (i .least)))
+      subst (λ (x : ℕ). (byte w .held * u + byte w .interval .low) * 1 < (x + 1) * u) (sym (value-one (i .b)))
+      (omega (arith, m .part, mul-le-mul-right u (i .least)))
   short (suc k) = i .prefix k
 
-  prefix-then : (k : ℕ) → (w .held * unit (w .until) + w .interval .low) * 2 ^ places B (i .b ∷ take k (i .bs)) < (value (B ∷ i .b ∷ take k (i .bs)) + 1) * unit (w .until)
+  prefix-then : (k : ℕ) → (w .held * unit (w .until) + w .interval .low) * 2 ^ places B (i .b ∷ take k (i .bs)) <
+      (value (B ∷ i .b ∷ take k (i .bs)) + 1) * unit (w .until)
   prefix-then k =
       rw (due-unit, places-cons B (i .b) (take k (i .bs)), value-cons B (i .b) (take k (i .bs)), ← byte-until w)
-      (byte-prefix (w .held) (w .interval .low) B (byte w .held) (byte w .interval .low) p u (2 ^ places (i .b) (take k (i .bs))) (value (i .b ∷ take k (i .bs))) (m .whole) (byte-scale w) (pow-pos (byte w .until)) (short k))
+      (byte-prefix (w .held) (w .interval .low) B (byte w .held) (byte w .interval .low) p u
+      (2 ^ places (i .b) (take k (i .bs))) (value (i .b ∷ take k (i .bs))) (m .whole) (byte-scale w)
+      (pow-pos (byte w .until)) (short k))
 
   abbrev K : ℕ
   K = 2 ^ places (i .b) (i .bs)
@@ -148,33 +173,46 @@ module _ (w : Registers) (all : List ℕ) (n : ℕ) (z : w .until ≡ 0) (m : By
       record {
         b = B;
         bs = i .b ∷ i .bs;
-        joined = i .joined ∙ ap (λ (l : List ℕ). l ++ (i .b ∷ i .bs)) (byte-settled w) ∙ append-assoc (w .settled) (B ∷ []) (i .b ∷ i .bs);
+        joined = i .joined ∙ ap (λ (l : List ℕ). l ++ (i .b ∷ i .bs)) (byte-settled w) ∙ append-assoc (w .settled)
+            (B ∷ []) (i .b ∷ i .bs);
         least = m .least;
         most = m .most;
         top = m .top;
         full = m .full;
-        lawful = (i .top, (λ y. stuffed (i .b) (byte w .held) (byte w .interval .low) (w .interval .width) u K X (head-le (i .b) (i .bs)) roof-now (m .stuff y)), i .lawful);
-        covers = covers-cons B (i .b) (i .bs) n (subst (λ (k : ℕ). n - k ≤ places (i .b) (i .bs)) (byte-until w) (i .covers));
-        wanted = need-cons B (i .b) (i .bs) n h (subst (λ (k : ℕ). need (i .b) (i .bs) ≤ n - k) (byte-until w) (i .wanted));
+        lawful = (
+          i .top,
+          (λ y. stuffed (i .b) (byte w .held) (byte w .interval .low) (w .interval .width) u K X
+              (head-le (i .b) (i .bs)) roof-now (m .stuff y)),
+          i .lawful,
+        );
+        covers = covers-cons B (i .b) (i .bs) n (subst (λ (k : ℕ). n - k ≤ places (i .b) (i .bs)) (byte-until w)
+            (i .covers));
+        wanted = need-cons B (i .b) (i .bs) n h (subst (λ (k : ℕ). need (i .b) (i .bs) ≤ n - k) (byte-until w)
+            (i .wanted));
         floor = rw (due-unit, places-cons B (i .b) (i .bs), value-cons B (i .b) (i .bs), ← byte-until w)
-            (byte-floor (w .held) (w .interval .low) B (byte w .held) (byte w .interval .low) p u K X (m .whole) (byte-scale w) (i .floor));
+            (byte-floor (w .held) (w .interval .low) B (byte w .held) (byte w .interval .low) p u K X (m .whole)
+            (byte-scale w) (i .floor));
         roof = rw (due-unit, places-cons B (i .b) (i .bs), value-cons B (i .b) (i .bs), ← byte-until w)
-            (byte-roof (w .held) (w .interval .low) B (byte w .held) (byte w .interval .low) p u K X (m .whole) (byte-scale w) (w .interval .width) (pow-pos (byte w .until)) roof-now);
+            (byte-roof (w .held) (w .interval .low) B (byte w .held) (byte w .interval .low) p u K X (m .whole)
+            (byte-scale w) (w .interval .width) (pow-pos (byte w .until)) roof-now);
         prefix = prefix-then;
       }
 
-pub ahead-byte : (w : Registers) (all : List ℕ) (n : ℕ) → Fit w → w .until ≡ 0 → 1 ≤ n → Ahead (byte w) all (n - byte w .until) → Ahead w all n
+pub ahead-byte : (w : Registers) (all : List ℕ) (n : ℕ) → Fit w → w .until ≡ 0 → 1 ≤ n
+    → Ahead (byte w) all (n - byte w .until) → Ahead w all n
 ahead-byte w all n f z h i = ahead-made w all n z (made w f z) i h
 
 -- ---- the end
-ahead-pads : (j : ℕ) (w : Registers) (all : List ℕ) (n : ℕ) → Fit w → w .until ≡ j → Ahead (pads j w) all n → Ahead w all n
+ahead-pads : (j : ℕ) (w : Registers) (all : List ℕ) (n : ℕ) → Fit w → w .until ≡ j → Ahead (pads j w) all n
+    → Ahead w all n
 unfolding pads
 ahead-pads zero w all n f e i = i
 ahead-pads (suc j) w all n f e i =
     let r : Rest w = record { fit = f; wait = omega arith } in
     ahead-pad w all n r (ahead-pads j (pad w) all n (fit-pad w r) (omega arith) i)
 
-ahead-last : (w : Registers) (all : List ℕ) (n : ℕ) → Rest w → 1 ≤ n → Ahead (lastByte w) all (n - lastByte w .until) → Ahead w all n
+ahead-last : (w : Registers) (all : List ℕ) (n : ℕ) → Rest w → 1 ≤ n → Ahead (lastByte w) all (n - lastByte w .until)
+    → Ahead w all n
 ahead-last w all n r h i =
     let k : Filled (pads (w .until) w) = filled (w .until) w (r .fit) refl in
     ahead-pads (w .until) w all n (r .fit) refl (ahead-byte (pads (w .until) w) all n (k .fit) (k .due) h i)
@@ -206,4 +244,5 @@ ahead-cover (suc j) r w f k h =
     by-cond (λ (v : Registers). Ahead w (bytes v) r) (eqb r 0) w (cover j (r - lastByte w .until) (lastByte w))
     (λ t. ahead-stop w r f (eqb→eq r 0 t) (k .clear (eqb→eq r 0 t)))
     (λ t. ahead-last w _ r f (pos-of-ne-zero (neqb→ne r 0 t))
-    (ahead-cover j (r - lastByte w .until) (lastByte w) (rest-last w f) (tail-last r w f k) (omega (arith, byte-few (pads (w .until) w)))))
+    (ahead-cover j (r - lastByte w .until) (lastByte w) (rest-last w f) (tail-last r w f k)
+    (omega (arith, byte-few (pads (w .until) w)))))

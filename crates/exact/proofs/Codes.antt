@@ -28,7 +28,8 @@ unfoldable pub counted : List Decision → ℕ
 counted ds = run ds start .interval .count
 
 -- of any state w and any decisions that follow: w's settled bytes begin the code, and Ahead says how it goes on
-pub extension : (es : List Decision) (w : Registers) → Ready w → AllSized es → Going w (bytes (finish (run es w))) (run es w .interval .count)
+pub extension : (es : List Decision) (w : Registers) → Ready w → AllSized es → Going w (bytes (finish (run es w)))
+    (run es w .interval .count)
 extension es w r z = going-run es w _ _ z r (going-end (run es w) (ready-run es w z r .rest))
 
 pub going-start : (ds : List Decision) → AllSized ds → Going start (bytes (finish (run ds start))) (counted ds)
@@ -50,7 +51,8 @@ pub code-bytes : (ds : List Decision) → AllSized ds → bytes (finish (run ds 
 unfolding written code
 code-bytes ds z =
     let g : Going start (bytes (finish (run ds start))) (counted ds) = going-start ds z in
-    let e : bytes (finish (run ds start)) ≡ 0 ∷ g .ahead .bs = g .ahead .joined ∙ ap (λ (x : ℕ). x ∷ g .ahead .bs) (ahead-zero _ _ (g .ahead)) in
+    let e : bytes (finish (run ds start)) ≡ 0 ∷ g .ahead .bs = g .ahead .joined ∙ ap (λ (x : ℕ). x ∷ g .ahead .bs)
+    (ahead-zero _ _ (g .ahead)) in
     e ∙ ap (λ (l : List ℕ). 0 ∷ drop 1 l) (sym e)
 
 -- the code from the start, with the bytes of the code itself
@@ -92,28 +94,38 @@ zero-value : (l : List ℕ) → value (0 ∷ l) ≡ value l
 unfolding value
 zero-value l = omega arith
 
-pub value-written : (ds : List Decision) → AllSized ds → value (written ds) * 2 ^ (12 + counted ds) ≡ exact ds whole .low * 2 ^ places 0 (written ds)
+pub value-written : (ds : List Decision) → AllSized ds → value (written ds) * 2 ^ (12 + counted ds) ≡ exact ds
+    whole .low * 2 ^ places 0 (written ds)
 value-written ds z =
-    let e : value (0 ∷ written ds) * 2 ^ (20 + exact ds whole .count) ≡ exact ds whole .low * 2 ^ places 0 (0 ∷ written ds)
-    = subst (λ (l : List ℕ). value l * 2 ^ (20 + exact ds whole .count) ≡ exact ds whole .low * 2 ^ places 0 l) (code-bytes ds z) (value-run ds z) in
-    rw (counted-exact ds z) (drop-eight (value (written ds)) (exact ds whole .low) (exact ds whole .count) (places 0 (written ds)) (open-zero (written ds) _ _ e))
+    let e : value (0 ∷ written ds) * 2 ^ (20 + exact ds whole .count) ≡ exact ds whole .low * 2 ^ places 0
+    (0 ∷ written ds)
+    = subst (λ (l : List ℕ). value l * 2 ^ (20 + exact ds whole .count) ≡ exact ds whole .low * 2 ^ places 0 l)
+    (code-bytes ds z) (value-run ds z) in
+    rw (counted-exact ds z) (drop-eight (value (written ds)) (exact ds whole .low) (exact ds whole .count)
+    (places 0 (written ds)) (open-zero (written ds) _ _ e))
   where
-    open-zero : (l : List ℕ) (x low : ℕ) → value (0 ∷ l) * x ≡ low * 2 ^ places 0 (0 ∷ l) → value l * x ≡ low * 2 ^ (8 + places 0 l)
+    open-zero : (l : List ℕ) (x low : ℕ) → value (0 ∷ l) * x ≡ low * 2 ^ places 0 (0 ∷ l)
+        → value l * x ≡ low * 2 ^ (8 + places 0 l)
     open-zero l x low e = rw (zero-place l) at (rw (zero-value l) at e)
 
 -- ---- the length law
-length-need : (b d : ℕ) (ds : List ℕ) → LawfulBytes b (d ∷ ds) → (b ≢ 255 → 8 * length ds + 1 ≤ need b (d ∷ ds) + length ds / 2) × (8 * length ds + 1 ≤ need b (d ∷ ds) + (length ds + 1) / 2)
+length-need : (b d : ℕ) (ds : List ℕ) → LawfulBytes b (d ∷ ds)
+    → (b ≢ 255 → 8 * length ds + 1 ≤ need b (d ∷ ds) + length ds / 2)
+    × (8 * length ds + 1 ≤ need b (d ∷ ds) + (length ds + 1) / 2)
 unfolding need
 length-need b d [] l = omega arith
 length-need b d (e ∷ es) l =
-    let i : (d ≢ 255 → 8 * length es + 1 ≤ need d (e ∷ es) + length es / 2) × (8 * length es + 1 ≤ need d (e ∷ es) + (length es + 1) / 2) = length-need d e es (l .2) in
+    let i : (d ≢ 255 → 8 * length es + 1 ≤ need d (e ∷ es) + length es / 2)
+    × (8 * length es + 1 ≤ need d (e ∷ es) + (length es + 1) / 2) = length-need d e es (l .2) in
     (plain i, either (same? b 255) i)
   where
-    plain : (d ≢ 255 → 8 * length es + 1 ≤ need d (e ∷ es) + length es / 2) × (8 * length es + 1 ≤ need d (e ∷ es) + (length es + 1) / 2)
+    plain : (d ≢ 255 → 8 * length es + 1 ≤ need d (e ∷ es) + length es / 2)
+        × (8 * length es + 1 ≤ need d (e ∷ es) + (length es + 1) / 2)
         → b ≢ 255 → 8 * length (e ∷ es) + 1 ≤ need b (d ∷ e ∷ es) + length (e ∷ es) / 2
     plain i n = omega (arith, i .1, bits-else b n)
 
-    either : (b ≡ 255) ⊎ (b ≢ 255) → (d ≢ 255 → 8 * length es + 1 ≤ need d (e ∷ es) + length es / 2) × (8 * length es + 1 ≤ need d (e ∷ es) + (length es + 1) / 2)
+    either : (b ≡ 255) ⊎ (b ≢ 255) → (d ≢ 255 → 8 * length es + 1 ≤ need d (e ∷ es) + length es / 2)
+        × (8 * length es + 1 ≤ need d (e ∷ es) + (length es + 1) / 2)
         → 8 * length (e ∷ es) + 1 ≤ need b (d ∷ e ∷ es) + (length (e ∷ es) + 1) / 2
     either (inl y) i = let small : d ≤ 143 = l .1 y in omega (arith, i .0 (omega arith), bits-ff b y)
     either (inr y) i = omega (arith, i .1, bits-else b y)
@@ -122,6 +134,7 @@ pub length-law : (ds : List Decision) → AllSized ds → 2 ≤ length (written 
     → 8 * (length (written ds) - 1) - (length (written ds) - 1) / 2 ≤ 11 + counted ds
 length-law ds z = go (written ds) (coded ds z)
   where
-    go : (l : List ℕ) → Coded ds l (counted ds) → 2 ≤ length l → 8 * (length l - 1) - (length l - 1) / 2 ≤ 11 + counted ds
+    go : (l : List ℕ) → Coded ds l (counted ds) → 2 ≤ length l → 8 * (length l - 1) - (length l - 1) / 2 ≤ 11
+        + counted ds
     go [] c h = omega arith
     go (d ∷ ds) c h = omega (arith, c .wanted, length-need 0 d ds (c .lawful) .0 (omega arith))

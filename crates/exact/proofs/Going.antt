@@ -8,7 +8,8 @@ use lib.Dec.{T, ltb, eqb, ltb→lt, eqb→eq}
 use Rattle.ground.proofs.Tests.{by-cond}
 use Rattle.interval.specs.Interval.{Decision}
 use Rattle.octets.specs.Octets.{Registers, byte, due, double, shifts, part, pel, run, finish, bytes}
-use Rattle.octets.proofs.Fit.{upper, lower, by-part, byte-few, Sized, AllSized, fit-double, rest-shift, rest-part, ready-pel}
+use Rattle.octets.proofs.Fit.{upper, lower, by-part, byte-few, Sized, AllSized, fit-double, rest-shift, rest-part}
+use Rattle.octets.proofs.Fit.{ready-pel}
 use Rattle.octets.specs.Fit.{Fit, Rest, Ready}
 use Rattle.exact.proofs.End.{tail-start}
 use Rattle.exact.proofs.Ahead.{Ahead, ahead-double, ahead-upper, ahead-lower, ahead-byte, ahead-cover}
@@ -38,40 +39,64 @@ going-byte w all S f z g =
 pub going-due : (w : Registers) (all : List ℕ) (S : ℕ) → Fit w → Going (due w) all S → Going w all S
 unfolding due
 going-due w all S f =
-    by-cond (λ (v : Registers). Going v all S → Going w all S) (eqb (w .until) 0) (byte w) w (λ t. going-byte w all S f (eqb→eq (w .until) 0 t)) (λ t g. g)
+    by-cond (λ (v : Registers). Going v all S → Going w all S) (eqb (w .until) 0) (byte w) w
+    (λ t. going-byte w all S f (eqb→eq (w .until) 0 t)) (λ t g. g)
 
 going-double : (w : Registers) (all : List ℕ) (S : ℕ) → Rest w → Going (double w) all S → Going w all S
-going-double w all S r g = record { n = g .n; togo = omega (arith, g .togo, r .wait, r .fit .few); soon = omega (arith, g .soon); ahead = ahead-double w all (g .n) r (g .ahead) }
+going-double w all S r g =
+    record {
+      n = g .n;
+      togo = omega (arith, g .togo, r .wait, r .fit .few);
+      soon = omega (arith, g .soon);
+      ahead =
+          ahead-double w all (g .n) r (g .ahead);
+    }
 
-pub going-shift : (w : Registers) (all : List ℕ) (S : ℕ) → Rest w → T (ltb (w .interval .width) 4096) → Going (due (double w)) all S → Going w all S
-going-shift w all S r t g = going-double w all S r (going-due (double w) all S (fit-double w r (ltb→lt (w .interval .width) 4096 t)) g)
+pub going-shift : (w : Registers) (all : List ℕ) (S : ℕ) → Rest w → T (ltb (w .interval .width) 4096)
+    → Going (due (double w)) all S → Going w all S
+going-shift w all S r t g = going-double w all S r
+    (going-due (double w) all S (fit-double w r (ltb→lt (w .interval .width) 4096 t)) g)
 
 pub going-shifts : (j : ℕ) (w : Registers) (all : List ℕ) (S : ℕ) → Rest w → Going (shifts j w) all S → Going w all S
 unfolding shifts
 going-shifts zero w all S r = λ g. g
 going-shifts (suc j) w all S r =
-    by-cond (λ (v : Registers). Going v all S → Going w all S) (ltb (w .interval .width) 4096) (shifts j (due (double w))) w
+    by-cond (λ (v : Registers). Going v all S → Going w all S) (ltb (w .interval .width) 4096)
+    (shifts j (due (double w))) w
     (λ t g. going-shift w all S r t (going-shifts j (due (double w)) all S (rest-shift w r t) g)) (λ t g. g)
 
-pub going-upper : (q : ℕ) (w : Registers) (all : List ℕ) (S : ℕ) → q ≤ w .interval .width → Going (upper q w) all S → Going w all S
-going-upper q w all S h g = record { n = g .n; togo = g .togo; soon = g .soon; ahead = ahead-upper q w all (g .n) h (g .ahead) }
+pub going-upper : (q : ℕ) (w : Registers) (all : List ℕ) (S : ℕ) → q ≤ w .interval .width → Going (upper q w) all S
+    → Going w all S
+going-upper q w all S h g =
+    record { n = g .n; togo = g .togo; soon = g .soon; ahead = ahead-upper q w all (g .n) h (g .ahead) }
 
-pub going-lower : (q : ℕ) (w : Registers) (all : List ℕ) (S : ℕ) → q ≤ w .interval .width → Going (lower q w) all S → Going w all S
-going-lower q w all S h g = record { n = g .n; togo = g .togo; soon = g .soon; ahead = ahead-lower q w all (g .n) h (g .ahead) }
+pub going-lower : (q : ℕ) (w : Registers) (all : List ℕ) (S : ℕ) → q ≤ w .interval .width → Going (lower q w) all S
+    → Going w all S
+going-lower q w all S h g =
+    record { n = g .n; togo = g .togo; soon = g .soon; ahead = ahead-lower q w all (g .n) h (g .ahead) }
 
-pub going-part : (d : Decision) (w : Registers) (all : List ℕ) (S : ℕ) → Ready w → Sized d → Going (part d w) all S → Going w all S
+pub going-part : (d : Decision) (w : Registers) (all : List ℕ) (S : ℕ) → Ready w → Sized d → Going (part d w) all S
+    → Going w all S
 going-part d w all S r z =
     let h : d .q ≤ w .interval .width = omega (arith, z .small, r .wide) in
     by-part (λ (v : Registers). Going v all S → Going w all S) d w
     (λ t. going-upper (d .q) w all S h) (λ t. going-lower (d .q) w all S h)
 
-pub going-run : (ds : List Decision) (w : Registers) (all : List ℕ) (S : ℕ) → AllSized ds → Ready w → Going (run ds w) all S → Going w all S
+pub going-run : (ds : List Decision) (w : Registers) (all : List ℕ) (S : ℕ) → AllSized ds → Ready w
+    → Going (run ds w) all S → Going w all S
 unfolding run
 going-run [] w all S z r g = g
 going-run (d ∷ ds) w all S z r g =
     going-part d w all S r (z .0)
-    (going-shifts 12 (part d w) all S (rest-part d w r (z .0)) (going-run ds (pel d w) all S (z .1) (ready-pel d w r (z .0)) g))
+    (going-shifts 12 (part d w) all S (rest-part d w r (z .0)) (going-run ds (pel d w) all S (z .1)
+    (ready-pel d w r (z .0)) g))
 
 pub going-end : (w : Registers) → Rest w → Going w (bytes (finish w)) (w .interval .count)
 unfolding finish
-going-end w r = record { n = 24 - w .until; togo = refl; soon = omega arith; ahead = ahead-cover 4 (24 - w .until) w r (tail-start w r) (omega arith) }
+going-end w r = record {
+  n = 24 - w .until;
+  togo = refl;
+  soon = omega arith;
+  ahead = ahead-cover 4 (24 - w .until) w r
+      (tail-start w r) (omega arith);
+}

@@ -22,7 +22,8 @@ use Rattle.exact.proofs.Ahead.{Ahead, ahead-double, byte-width, byte-se
 use Rattle.exact.proofs.Going.{Going, going-due, going-shifts}
 use Rattle.exact.specs.Sight.{Sight, opened, more, nearer, supplied, seek, decide, above, under}
 
--- ---- what the reader has read: of the bytes from w's on, b and then ys and the last; x is their value less the lower end
+-- ---- what the reader has read: of the bytes from w's on, b and then ys and the last; x is their value less the lower
+-- end
 pub record Sees (r : Sight) (w : Registers) (all : List ℕ) : Type 0 where
   pub b : ℕ
   pub ys : List ℕ
@@ -41,7 +42,8 @@ take-last [] l us = refl
 take-last (y ∷ ys) l us = ap (λ (k : List ℕ). y ∷ k) (take-last ys l us)
 
 -- the state's decomposition and the reader's are one
-module _ (r : Sight) (w v : Registers) (all : List ℕ) (n : ℕ) (same : v .settled ≡ w .settled) (g : Sees r w all) (i : Ahead v all n) where
+module _ (r : Sight) (w v : Registers) (all : List ℕ) (n : ℕ) (same : v .settled ≡ w .settled) (g : Sees r w all)
+    (i : Ahead v all n) where
   one : i .b ∷ i .bs ≡ g .b ∷ (g .ys ++ (r .last ∷ r .unread))
   one = cancel (w .settled) _ _ (ap (λ (l : List ℕ). l ++ (i .b ∷ i .bs)) (sym same) ∙ sym (i .joined) ∙ g .joined)
 
@@ -57,48 +59,65 @@ unfolding unit
 place-unit p t l e = ap (λ (k : ℕ). 2 ^ k) e ∙ pow-add 2 (24 - t) l
 
 -- ---- the reader's test tells the pel
-expected-num : (h u c q l x X : ℕ) → 1 ≤ u → (h * u + (c + q)) * (u * l) < (X + 1) * u → x + (h * u + c) * l ≡ X → q * l ≤ x
+expected-num : (h u c q l x X : ℕ) → 1 ≤ u → (h * u + (c + q)) * (u * l) < (X + 1) * u → x + (h * u + c) * l ≡ X
+    → q * l ≤ x
 expected-num h u c q l x X p k e =
     let m : (h * u + (c + q)) * l * u < (X + 1) * u = omega arith in
     let n : (h * u + (c + q)) * l < X + 1 = lt-of-mul-lt-mul-right u m in
     omega arith
 
-pub expects : (q : ℕ) (r : Sight) (w : Registers) (all : List ℕ) (n : ℕ) → Sees r w all → Ahead (upper q w) all n → q * 2 ^ r .look ≤ r .x
+pub expects : (q : ℕ) (r : Sight) (w : Registers) (all : List ℕ) (n : ℕ) → Sees r w all → Ahead (upper q w) all n
+    → q * 2 ^ r .look ≤ r .x
 expects q r w all n g i =
-    let k : (w .held * unit (w .until) + (w .interval .low + q)) * 2 ^ places (g .b) (g .ys ++ (r .last ∷ [])) < (value (g .b ∷ (g .ys ++ (r .last ∷ []))) + 1) * unit (w .until)
-    = subst₂ (λ (b : ℕ) (l : List ℕ). (w .held * unit (w .until) + (w .interval .low + q)) * 2 ^ places b l < (value (b ∷ l) + 1) * unit (w .until))
+    let k : (w .held * unit (w .until) + (w .interval .low + q)) * 2 ^ places (g .b) (g .ys ++ (r .last ∷ [])) <
+    (value (g .b ∷ (g .ys ++ (r .last ∷ []))) + 1) * unit (w .until)
+    = subst₂ (λ (b : ℕ) (l : List ℕ). (w .held * unit (w .until) + (w .interval .low + q)) * 2 ^ places b l <
+    (value (b ∷ l) + 1) * unit (w .until))
     (meet-b r w (upper q w) all n refl g i)
-    (ap (λ (l : List ℕ). take (suc (length (g .ys))) l) (meet-bs r w (upper q w) all n refl g i) ∙ take-last (g .ys) (r .last) (r .unread))
+    (ap (λ (l : List ℕ). take (suc (length (g .ys))) l) (meet-bs r w (upper q w) all n refl g i) ∙ take-last (g .ys)
+    (r .last) (r .unread))
     (i .prefix (length (g .ys))) in
     expected-num (w .held) (unit (w .until)) (w .interval .low) q (2 ^ r .look) (r .x) _ (unit-pos (w .until))
-    (subst (λ (y : ℕ). (w .held * unit (w .until) + (w .interval .low + q)) * y < (value (g .b ∷ (g .ys ++ (r .last ∷ []))) + 1) * unit (w .until)) (place-unit _ (w .until) (r .look) (g .place)) k)
+    (subst (λ (y : ℕ). (w .held * unit (w .until) + (w .interval .low + q)) * y <
+    (value (g .b ∷ (g .ys ++ (r .last ∷ []))) + 1) * unit (w .until)) (place-unit _ (w .until) (r .look)
+    (g .place)) k)
     (g .number)
 
-unexpected-num : (h u c q l x X Y K Z : ℕ) → 1 ≤ u → 1 ≤ K → Y ≡ X * K + Z → Y * u < (h * u + c + q) * (u * l * K) → x + (h * u + c) * l ≡ X → x < q * l
+unexpected-num : (h u c q l x X Y K Z : ℕ) → 1 ≤ u → 1 ≤ K → Y ≡ X * K + Z → Y * u < (h * u + c + q) * (u * l * K)
+    → x + (h * u + c) * l ≡ X → x < q * l
 unexpected-num h u c q l x X Y K Z p p′ y k e =
     let m : X * (K * u) < (h * u + c + q) * l * (K * u) = omega (arith, ap (λ (z : ℕ). z * u) y) in
     let n : X < (h * u + c + q) * l = lt-of-mul-lt-mul-right (K * u) m in
     omega arith
 
-pub refuses : (q : ℕ) (r : Sight) (w : Registers) (all : List ℕ) (n : ℕ) → Sees r w all → Ahead (lower q w) all n → r .x < q * 2 ^ r .look
+pub refuses : (q : ℕ) (r : Sight) (w : Registers) (all : List ℕ) (n : ℕ) → Sees r w all → Ahead (lower q w) all n
+    → r .x < q * 2 ^ r .look
 refuses q r w all n g i =
-    let k : value (g .b ∷ (g .ys ++ (r .last ∷ r .unread))) * unit (w .until) < (w .held * unit (w .until) + w .interval .low + q) * 2 ^ places (g .b) (g .ys ++ (r .last ∷ r .unread))
-    = subst₂ (λ (b : ℕ) (l : List ℕ). value (b ∷ l) * unit (w .until) < (w .held * unit (w .until) + w .interval .low + q) * 2 ^ places b l)
+    let k : value (g .b ∷ (g .ys ++ (r .last ∷ r .unread))) * unit (w .until) <
+    (w .held * unit (w .until) + w .interval .low + q) * 2 ^ places (g .b) (g .ys ++ (r .last ∷ r .unread))
+    = subst₂ (λ (b : ℕ) (l : List ℕ). value (b ∷ l) * unit (w .until) < (w .held * unit (w .until) + w .interval .low +
+    q) * 2 ^ places b l)
     (meet-b r w (lower q w) all n refl g i) (meet-bs r w (lower q w) all n refl g i) (i .roof) in
-    let e : 2 ^ places (g .b) (g .ys ++ (r .last ∷ r .unread)) ≡ unit (w .until) * 2 ^ r .look * 2 ^ places (r .last) (r .unread)
-    = ap (λ (y : ℕ). 2 ^ y) (places-split (g .b) (g .ys) (r .last) (r .unread)) ∙ pow-add 2 _ (places (r .last) (r .unread))
+    let e : 2 ^ places (g .b) (g .ys ++ (r .last ∷ r .unread)) ≡ unit (w .until) * 2 ^ r .look * 2 ^ places (r .last)
+    (r .unread)
+    = ap (λ (y : ℕ). 2 ^ y) (places-split (g .b) (g .ys) (r .last) (r .unread)) ∙ pow-add 2 _
+    (places (r .last) (r .unread))
     ∙ ap (λ (y : ℕ). y * 2 ^ places (r .last) (r .unread)) (place-unit _ (w .until) (r .look) (g .place)) in
-    unexpected-num (w .held) (unit (w .until)) (w .interval .low) q (2 ^ r .look) (r .x) _ _ (2 ^ places (r .last) (r .unread)) (value (r .unread)) (unit-pos (w .until)) (pow-pos _)
+    unexpected-num (w .held) (unit (w .until)) (w .interval .low) q (2 ^ r .look) (r .x) _ _
+    (2 ^ places (r .last) (r .unread)) (value (r .unread)) (unit-pos (w .until)) (pow-pos _)
     (value-split (g .b ∷ g .ys) (r .last) (r .unread))
-    (subst (λ (y : ℕ). value (g .b ∷ (g .ys ++ (r .last ∷ r .unread))) * unit (w .until) < (w .held * unit (w .until) + w .interval .low + q) * y) e k)
+    (subst (λ (y : ℕ). value (g .b ∷ (g .ys ++ (r .last ∷ r .unread))) * unit (w .until) <
+    (w .held * unit (w .until) + w .interval .low + q) * y) e k)
     (g .number)
 
 -- x is below the width (`lower (w .interval .width) w` is w)
-pub x-bound : (r : Sight) (w : Registers) (all : List ℕ) (n : ℕ) → Sees r w all → Ahead w all n → r .x < w .interval .width * 2 ^ r .look
+pub x-bound : (r : Sight) (w : Registers) (all : List ℕ) (n : ℕ) → Sees r w all → Ahead w all n
+    → r .x < w .interval .width * 2 ^ r .look
 x-bound r w all n g i = refuses (w .interval .width) r w all n g i
 
 -- ---- the steps, side by side
-pub sees-upper : (q : ℕ) (r : Sight) (w : Registers) (all : List ℕ) → q * 2 ^ r .look ≤ r .x → Sees r w all → Sees (above q r) (upper q w) all
+pub sees-upper : (q : ℕ) (r : Sight) (w : Registers) (all : List ℕ) → q * 2 ^ r .look ≤ r .x → Sees r w all
+    → Sees (above q r) (upper q w) all
 sees-upper q r w all h g =
     record {
       b = g .b;
@@ -113,27 +132,51 @@ sees-upper q r w all h g =
     num y c l x h = omega arith
 
 pub sees-lower : (q : ℕ) (r : Sight) (w : Registers) (all : List ℕ) → Sees r w all → Sees (under q r) (lower q w) all
-sees-lower q r w all g = record { b = g .b; ys = g .ys; joined = g .joined; wide = refl; place = g .place; number = g .number }
+sees-lower q r w all g = record {
+  b = g .b;
+  ys = g .ys;
+  joined = g .joined;
+  wide = refl;
+  place = g .place;
+  number =
+      g .number;
+}
 
 -- one byte more is read: there is one, since the bytes cover the shift that comes
 sees-more : (r : Sight) (w : Registers) (all : List ℕ) (d : ℕ) (us : List ℕ) → r .unread ≡ d ∷ us → Sees r w all
-    → Sees (record { width = r .width; x = r .x * 2 ^ bits (r .last) + d; look = r .look + bits (r .last); last = d; unread = us }) w all
+    → Sees (record {
+      width = r .width;
+      x = r .x * 2 ^ bits (r .last) + d;
+      look = r .look + bits (r .last);
+      last =
+          d;
+      unread = us;
+    }) w all
 sees-more r w all d us e g =
     record {
       b = g .b;
       ys = g .ys ++ (r .last ∷ []);
-      joined = g .joined ∙ ap (λ (l : List ℕ). w .settled ++ (g .b ∷ l)) (ap (λ (l : List ℕ). g .ys ++ (r .last ∷ l)) e ∙ sym (append-assoc (g .ys) (r .last ∷ []) (d ∷ us)));
+      joined = g .joined ∙ ap (λ (l : List ℕ). w .settled ++ (g .b ∷ l)) (ap (λ (l : List ℕ). g .ys ++ (r .last ∷ l)) e
+          ∙ sym (append-assoc (g .ys) (r .last ∷ []) (d ∷ us)));
       wide = g .wide;
-      place = rw (append-assoc (g .ys) (r .last ∷ []) (d ∷ []), places-snoc (g .b) (g .ys) (r .last) d) (omega (arith, g .place));
+      place = rw (append-assoc (g .ys) (r .last ∷ []) (d ∷ []), places-snoc (g .b) (g .ys) (r .last) d)
+          (omega (arith, g .place));
       number =
-          rw (append-assoc (g .ys) (r .last ∷ []) (d ∷ []), value-snoc (g .b ∷ g .ys) (r .last) d, ← g .number, pow-add 2 (r .look) (bits (r .last)))
+          rw (
+            append-assoc (g .ys) (r .last ∷ []) (d ∷ []),
+            value-snoc (g .b ∷ g .ys) (r .last) d,
+            ← g .number,
+            pow-add
+                2 (r .look) (bits (r .last)),
+          )
           (num (r .x) (w .held * unit (w .until) + w .interval .low) (2 ^ r .look) (2 ^ bits (r .last)) d);
     }
   where
     num : (x y l k d : ℕ) → x * k + d + y * (l * k) ≡ (x + y * l) * k + d
     num x y l k d = omega arith
 
-sees-nearer : (r : Sight) (w : Registers) (all : List ℕ) → Rest w → 1 ≤ r .look → Sees r w all → Sees (nearer r) (double w) all
+sees-nearer : (r : Sight) (w : Registers) (all : List ℕ) → Rest w → 1 ≤ r .look → Sees r w all
+    → Sees (nearer r) (double w) all
 sees-nearer r w all f h g =
     record {
       b = g .b;
@@ -141,8 +184,10 @@ sees-nearer r w all f h g =
       joined = g .joined;
       wide = ap (λ (k : ℕ). 2 * k) (g .wide);
       place = omega (arith, g .place, f .wait, f .fit .few);
-      number = num (w .held) (unit (w .until)) (unit (w .until - 1)) (w .interval .low) (2 ^ r .look) (2 ^ (r .look - 1)) (r .x)
-          (unit-pred (w .until) (f .wait) (omega (arith, f .fit .few))) (ap (λ (k : ℕ). 2 ^ k) (step (r .look) h) ∙ pow-succ' 2 (r .look - 1)) ∙ g .number;
+      number = num (w .held) (unit (w .until)) (unit (w .until - 1)) (w .interval .low) (2 ^ r .look)
+          (2 ^ (r .look - 1)) (r .x)
+          (unit-pred (w .until) (f .wait) (omega (arith, f .fit .few))) (ap (λ (k : ℕ). 2 ^ k) (step (r .look) h)
+          ∙ pow-succ' 2 (r .look - 1)) ∙ g .number;
     }
   where
     step : (l : ℕ) → 1 ≤ l → l ≡ suc (l - 1)
@@ -152,52 +197,68 @@ sees-nearer r w all f h g =
     num h u v c l m x e k = rw (e, k) (omega arith)
 
 -- at a byte that is due, the reader has read past it
-module _ (w : Registers) (r : Sight) (all : List ℕ) (n : ℕ) (z : w .until ≡ 0) (by : Byte w) (i : Ahead (byte w) all n) where
-  byte-num : (B h c h′ c′ l x X p q : ℕ) → h * 16777216 + c ≡ B * 16777216 + (h′ * p + c′) → q ≡ 16777216 * l → x + (h * 16777216 + c) * l ≡ B * q + X
+module _ (w : Registers) (r : Sight) (all : List ℕ) (n : ℕ) (z : w .until ≡ 0) (by : Byte w)
+    (i : Ahead (byte w) all n) where
+  byte-num : (B h c h′ c′ l x X p q : ℕ) → h * 16777216 + c ≡ B * 16777216 + (h′ * p + c′) → q ≡ 16777216 * l
+      → x + (h * 16777216 + c) * l ≡ B * q + X
       → x + (h′ * p + c′) * l ≡ X
   byte-num B h c h′ c′ l x X p q e k f =
-      let f′ : x + (B * 16777216 + (h′ * p + c′)) * l ≡ B * (16777216 * l) + X = subst₂ (λ (y q : ℕ). x + y * l ≡ B * q + X) e k f in
+      let f′ : x + (B * 16777216 + (h′ * p + c′)) * l ≡ B * (16777216 * l) + X =
+      subst₂ (λ (y q : ℕ). x + y * l ≡ B * q + X) e k f in
       omega arith
 
-  place-head : (b y : ℕ) (ys : List ℕ) (l : ℕ) → bits b ≡ byte w .until → places b (y ∷ ys) ≡ 24 - w .until + l → places y ys ≡ 24 - byte w .until + l
+  place-head : (b y : ℕ) (ys : List ℕ) (l : ℕ) → bits b ≡ byte w .until → places b (y ∷ ys) ≡ 24 - w .until + l
+      → places y ys ≡ 24 - byte w .until + l
   unfolding places
   place-head b y ys l e p = omega (arith, bits-few b)
 
   number-of : (y : ℕ) (ys : List ℕ) → places (carried (w .held) (w .interval .low)) (y ∷ ys) ≡ 24 - w .until + r .look
-      → r .x + (w .held * unit (w .until) + w .interval .low) * 2 ^ r .look ≡ value (carried (w .held) (w .interval .low) ∷ y ∷ ys)
+      → r .x + (w .held * unit (w .until) + w .interval .low) * 2 ^ r .look ≡ value
+      (carried (w .held) (w .interval .low) ∷ y ∷ ys)
       → r .x + (byte w .held * unit (byte w .until) + byte w .interval .low) * 2 ^ r .look ≡ value (y ∷ ys)
   unfolding value
   number-of y ys p f =
-      byte-num (carried (w .held) (w .interval .low)) (w .held) (w .interval .low) (byte w .held) (byte w .interval .low) (2 ^ r .look) (r .x) (value (y ∷ ys)) (unit (byte w .until)) _ (by .whole)
+      byte-num (carried (w .held) (w .interval .low)) (w .held) (w .interval .low) (byte w .held)
+      (byte w .interval .low) (2 ^ r .look) (r .x) (value (y ∷ ys)) (unit (byte w .until)) _ (by .whole)
       (place-unit _ (w .until) (r .look) p ∙ ap (λ (u : ℕ). u * 2 ^ r .look) (ap unit z ∙ unit-zero))
-      (subst (λ (u : ℕ). r .x + (w .held * u + w .interval .low) * 2 ^ r .look ≡ value (carried (w .held) (w .interval .low) ∷ y ∷ ys)) (ap unit z ∙ unit-zero) f)
+      (subst (λ (u : ℕ). r .x + (w .held * u + w .interval .low) * 2 ^ r .look ≡ value
+      (carried (w .held) (w .interval .low) ∷ y ∷ ys)) (ap unit z ∙ unit-zero) f)
 
   past : (b : ℕ) (ys : List ℕ) → all ≡ w .settled ++ (b ∷ (ys ++ (r .last ∷ r .unread))) → r .width ≡ w .interval .width
       → places b (ys ++ (r .last ∷ [])) ≡ 24 - w .until + r .look
-      → r .x + (w .held * unit (w .until) + w .interval .low) * 2 ^ r .look ≡ value (b ∷ (ys ++ (r .last ∷ []))) → Sees r (byte w) all
+      → r .x + (w .held * unit (w .until) + w .interval .low) * 2 ^ r .look ≡ value (b ∷ (ys ++ (r .last ∷ [])))
+      → Sees r (byte w) all
   past b [] j a p f = absurd (short b (r .last) p)
     where
       short : (b l : ℕ) → places b (l ∷ []) ≡ 24 - w .until + r .look → ⊥
       short b l p = omega (arith, bits-few b, places-one b l)
   past b (y ∷ ys) j a p f =
       let same : carried (w .held) (w .interval .low) ∷ i .b ∷ i .bs ≡ b ∷ y ∷ (ys ++ (r .last ∷ r .unread))
-      = cancel (w .settled) _ _ (sym (append-assoc (w .settled) (carried (w .held) (w .interval .low) ∷ []) (i .b ∷ i .bs)) ∙ ap (λ (l : List ℕ). l ++ (i .b ∷ i .bs)) (sym (byte-settled w)) ∙ sym (i .joined) ∙ j) in
+      = cancel (w .settled) _ _ (sym (append-assoc (w .settled) (carried (w .held) (w .interval .low) ∷ [])
+      (i .b ∷ i .bs)) ∙ ap (λ (l : List ℕ). l ++ (i .b ∷ i .bs)) (sym (byte-settled w)) ∙ sym (i .joined) ∙ j) in
       let eb : b ≡ carried (w .held) (w .interval .low) = ap (λ (l : List ℕ). getD l 0 0) (sym same) in
       record {
         b = y;
         ys = ys;
         joined = j ∙ ap (λ (k : ℕ). w .settled ++ (k ∷ y ∷ (ys ++ (r .last ∷ r .unread)))) eb
-            ∙ sym (append-assoc (w .settled) (carried (w .held) (w .interval .low) ∷ []) (y ∷ (ys ++ (r .last ∷ r .unread)))) ∙ ap (λ (l : List ℕ). l ++ (y ∷ (ys ++ (r .last ∷ r .unread)))) (sym (byte-settled w));
+            ∙ sym (append-assoc (w .settled) (carried (w .held) (w .interval .low) ∷ [])
+            (y ∷ (ys ++ (r .last ∷ r .unread)))) ∙ ap (λ (l : List ℕ). l ++ (y ∷ (ys ++ (r .last ∷ r .unread))))
+            (sym (byte-settled w));
         wide = a ∙ sym (byte-width w);
         place = place-head b y (ys ++ (r .last ∷ [])) (r .look) (ap bits eb ∙ sym (byte-until w)) p;
-        number = number-of y (ys ++ (r .last ∷ [])) (subst (λ (k : ℕ). places k (y ∷ (ys ++ (r .last ∷ []))) ≡ 24 - w .until + r .look) eb p)
-            (subst (λ (k : ℕ). r .x + (w .held * unit (w .until) + w .interval .low) * 2 ^ r .look ≡ value (k ∷ y ∷ (ys ++ (r .last ∷ [])))) eb f);
+        number = number-of y (ys ++ (r .last ∷ []))
+            (subst (λ (k : ℕ). places k (y ∷ (ys ++ (r .last ∷ []))) ≡ 24 - w .until + r .look) eb p)
+            (subst (λ (k : ℕ). r .x + (w .held * unit (w .until) + w .interval .low) * 2 ^ r .look ≡ value
+            (k ∷ y ∷ (ys ++ (r .last ∷ [])))) eb f);
       }
 
-sees-byte : (w : Registers) (r : Sight) (all : List ℕ) (n : ℕ) → Fit w → w .until ≡ 0 → Ahead (byte w) all n → Sees r w all → Sees r (byte w) all
-sees-byte w r all n f z i g = past w r all n z (made w f z) i (g .b) (g .ys) (g .joined) (g .wide) (g .place) (g .number)
+sees-byte : (w : Registers) (r : Sight) (all : List ℕ) (n : ℕ) → Fit w → w .until ≡ 0 → Ahead (byte w) all n
+    → Sees r w all → Sees r (byte w) all
+sees-byte w r all n f z i g = past w r all n z (made w f z) i (g .b) (g .ys) (g .joined) (g .wide) (g .place)
+    (g .number)
 
-sees-due : (w : Registers) (r : Sight) (all : List ℕ) (S : ℕ) → Fit w → Going (due w) all S → Sees r w all → Sees r (due w) all
+sees-due : (w : Registers) (r : Sight) (all : List ℕ) (S : ℕ) → Fit w → Going (due w) all S → Sees r w all
+    → Sees r (due w) all
 unfolding due
 sees-due w r all S f =
     by-cond (λ (v : Registers). Going v all S → Sees r w all → Sees r v all) (eqb (w .until) 0) (byte w) w
@@ -208,11 +269,13 @@ record Supplied (r : Sight) (w : Registers) (all : List ℕ) : Type 0 where
   sees : Sees r w all
   look : 1 ≤ r .look
 
-not-done : (r : Sight) (w : Registers) (all : List ℕ) (S : ℕ) → Rest w → Going (double w) all S → Sees r w all → r .look ≡ 0 → r .unread ≡ [] → ⊥
+not-done : (r : Sight) (w : Registers) (all : List ℕ) (S : ℕ) → Rest w → Going (double w) all S → Sees r w all
+    → r .look ≡ 0 → r .unread ≡ [] → ⊥
 not-done r w all S f i g z e =
     let c : i .n ≤ places (g .b) (g .ys ++ (r .last ∷ []))
     = subst₂ (λ (b : ℕ) (l : List ℕ). i .n ≤ places b l) (meet-b r w (double w) all (i .n) refl g (i .ahead))
-    (meet-bs r w (double w) all (i .n) refl g (i .ahead) ∙ ap (λ (l : List ℕ). g .ys ++ (r .last ∷ l)) e) (i .ahead .covers) in
+    (meet-bs r w (double w) all (i .n) refl g (i .ahead) ∙ ap (λ (l : List ℕ). g .ys ++ (r .last ∷ l)) e)
+    (i .ahead .covers) in
     omega (arith, g .place, i .togo, i .soon, f .wait, f .fit .few)
 
 fits : (a l x : ℕ) → a ≤ 8191 → l ≤ 8 → x < a * 2 ^ l → x % 2 ^ 32 ≡ x
@@ -220,7 +283,8 @@ fits a l x h k p =
     let m : a * 2 ^ l ≤ 8191 * 2 ^ 8 = mul-le-mul h (pow-mono k) in
     mod-eq-of-lt (omega arith)
 
-sees-supplied : (r : Sight) (w : Registers) (all : List ℕ) (S : ℕ) → Rest w → Going (double w) all S → Sees r w all → Supplied (supplied r) w all
+sees-supplied : (r : Sight) (w : Registers) (all : List ℕ) (S : ℕ) → Rest w → Going (double w) all S → Sees r w all
+    → Supplied (supplied r) w all
 unfolding supplied
 sees-supplied r w all S f i g =
     by-cond (λ (v : Sight). Supplied v w all) (eqb (r .look) 0) (more r) r
@@ -235,27 +299,34 @@ sees-supplied r w all S f i g =
     go (d ∷ us) e z =
         let x : ℕ = r .x * 2 ^ bits (r .last) + d in
         let s : Sees (sight x d us) w all = sees-more r w all d us e g in
-        let b : x < w .interval .width * 2 ^ (r .look + bits (r .last)) = x-bound (sight x d us) w all (i .n) s (ahead-double w all (i .n) f (i .ahead)) in
-        let k : x % 2 ^ 32 ≡ x = fits (w .interval .width) (r .look + bits (r .last)) x (f .fit .narrow) (omega (arith, bits-few (r .last))) b in
+        let b : x < w .interval .width * 2 ^ (r .look + bits (r .last)) = x-bound (sight x d us) w all (i .n) s
+        (ahead-double w all (i .n) f (i .ahead)) in
+        let k : x % 2 ^ 32 ≡ x = fits (w .interval .width) (r .look + bits (r .last)) x (f .fit .narrow)
+        (omega (arith, bits-few (r .last))) b in
         record {
-          sees = subst (λ (l : List ℕ). Sees (sight ((r .x * 2 ^ bits (r .last) + getD l 0 0) % 2 ^ 32) (getD l 0 0) (drop 1 l)) w all)
+          sees = subst (λ (l : List ℕ). Sees (sight ((r .x * 2 ^ bits (r .last) + getD l 0 0) % 2 ^ 32) (getD l 0 0)
+              (drop 1 l)) w all)
               (sym e) (subst (λ (y : ℕ). Sees (sight y d us) w all) (sym k) s);
           look = omega (arith, bits-few (r .last));
         }
 
-sees-shift : (r : Sight) (w : Registers) (all : List ℕ) (S : ℕ) → Rest w → T (ltb (w .interval .width) 4096) → Going (due (double w)) all S → Sees r w all
+sees-shift : (r : Sight) (w : Registers) (all : List ℕ) (S : ℕ) → Rest w → T (ltb (w .interval .width) 4096)
+    → Going (due (double w)) all S → Sees r w all
     → Sees (nearer (supplied r)) (due (double w)) all
 sees-shift r w all S f t i g =
     let k : Fit (double w) = fit-double w f (ltb→lt (w .interval .width) 4096 t) in
     let s : Supplied (supplied r) w all = sees-supplied r w all S f (going-due (double w) all S k i) g in
     sees-due (double w) (nearer (supplied r)) all S k i (sees-nearer (supplied r) w all f (s .look) (s .sees))
 
-pub sees-shifts : (n : ℕ) (r : Sight) (w : Registers) (all : List ℕ) (S : ℕ) → Rest w → Sees r w all → Going (shifts n w) all S → Sees (seek n r) (shifts n w) all
+pub sees-shifts : (n : ℕ) (r : Sight) (w : Registers) (all : List ℕ) (S : ℕ) → Rest w → Sees r w all
+    → Going (shifts n w) all S → Sees (seek n r) (shifts n w) all
 unfolding shifts seek
 sees-shifts zero r w all S f g = λ i. g
 sees-shifts (suc n) r w all S f g =
-    subst (λ (k : ℕ). Going (shifts (suc n) w) all S → Sees (cond (ltb k 4096) (seek n (nearer (supplied r))) r) (shifts (suc n) w) all) (sym (g .wide))
-    (by-cond₂ (λ (v : Registers) (q : Sight). Going v all S → Sees q v all) (ltb (w .interval .width) 4096) (shifts n (due (double w))) w (seek n (nearer (supplied r))) r
+    subst (λ (k : ℕ). Going (shifts (suc n) w) all S → Sees (cond (ltb k 4096) (seek n (nearer (supplied r))) r)
+    (shifts (suc n) w) all) (sym (g .wide))
+    (by-cond₂ (λ (v : Registers) (q : Sight). Going v all S → Sees q v all) (ltb (w .interval .width) 4096)
+    (shifts n (due (double w))) w (seek n (nearer (supplied r))) r
     (λ t i.
     sees-shifts n (nearer (supplied r)) (due (double w)) all S (rest-shift w f t)
     (sees-shift r w all S f t (going-shifts n (due (double w)) all S (rest-shift w f t) i) g) i)

@@ -29,15 +29,18 @@ unfolding value
 head-le d ds = omega arith
 
 -- ---- bytes behind
-pub places-split : (z : ℕ) (xs : List ℕ) (l : ℕ) (us : List ℕ) → places z (xs ++ (l ∷ us)) ≡ places z (xs ++ (l ∷ [])) + places l us
+pub places-split : (z : ℕ) (xs : List ℕ) (l : ℕ) (us : List ℕ) → places z (xs ++ (l ∷ us)) ≡ places z (xs ++ (l ∷ []))
+    + places l us
 unfolding places
 places-split z [] l us = omega arith
 places-split z (x ∷ xs) l us = omega (arith, places-split x xs l us)
 
-pub value-split : (xs : List ℕ) (l : ℕ) (us : List ℕ) → value (xs ++ (l ∷ us)) ≡ value (xs ++ (l ∷ [])) * 2 ^ places l us + value us
+pub value-split : (xs : List ℕ) (l : ℕ) (us : List ℕ) → value (xs ++ (l ∷ us)) ≡ value (xs ++ (l ∷ [])) * 2 ^ places l
+    us + value us
 unfolding value places
 value-split [] l us = omega arith
-value-split (x ∷ xs) l us = rw (places-split x xs l us, pow-add 2 (places x (xs ++ (l ∷ []))) (places l us)) (omega (arith, value-split xs l us))
+value-split (x ∷ xs) l us = rw (places-split x xs l us, pow-add 2 (places x (xs ++ (l ∷ []))) (places l us))
+    (omega (arith, value-split xs l us))
 
 pub places-snoc : (z : ℕ) (xs : List ℕ) (b d : ℕ) → places z (xs ++ (b ∷ d ∷ [])) ≡ places z (xs ++ (b ∷ [])) + bits b
 places-snoc z xs b d = omega (arith, places-split z xs b (d ∷ []), places-one b d)

@@ -51,6 +51,7 @@ if-lt m n x y h = cond-true (ltb m n) x y (lt→ltb m n h)
 pub if-ge : {A : Type 0} (m n : ℕ) (x y : A) → n ≤ m → cond (ltb m n) x y ≡ y
 if-ge m n x y h = cond-false (ltb m n) x y (le→nltb m n h)
 
-pub by-cond₂ : {A B : Type 0} (P : A → B → Type 0) (b : Bool) (x y : A) (x′ y′ : B) → (T b → P x x′) → (T (not b) → P y y′) → P (cond b x y) (cond b x′ y′)
+pub by-cond₂ : {A B : Type 0} (P : A → B → Type 0) (b : Bool) (x y : A) (x′ y′ : B) → (T b → P x x′)
+    → (T (not b) → P y y′) → P (cond b x y) (cond b x′ y′)
 by-cond₂ P true x y x′ y′ f g = f tt
 by-cond₂ P false x y x′ y′ f g = g tt

@@ -17,12 +17,14 @@ unfolding doublings
 doublings-top zero k a h e l u = omega arith
 doublings-top (suc n) k a h e l u =
     go (decLt k 12)
-    (λ s. doublings-top n (suc k) (2 * a) s (omega arith) (rw (pow-succ' 2 k) (omega arith)) (rw (pow-succ' 2 (suc k)) (omega arith)))
+    (λ s. doublings-top n (suc k) (2 * a) s (omega arith) (rw (pow-succ' 2 k) (omega arith))
+    (rw (pow-succ' 2 (suc k)) (omega arith)))
   where
     one : k < 12 → suc (12 - suc k) ≡ 12 - k
     one s = omega arith
 
-    go : Dec (k < 12) → (k < 12 → doublings n (2 * a) ≡ 12 - suc k) → cond (ltb a 4096) (suc (doublings n (2 * a))) 0 ≡ 12 - k
+    go : Dec (k < 12) → (k < 12 → doublings n (2 * a) ≡ 12 - suc k) → cond (ltb a 4096) (suc (doublings n (2 * a))) 0
+        ≡ 12 - k
     go (yes s) f =
         let p : 2 ^ suc k ≤ 2 ^ 12 = pow-mono {i = suc k} {j = 12} s in
         if-lt a 4096 (suc (doublings n (2 * a))) 0 (omega arith) ∙ ap suc (f s) ∙ one s
@@ -39,7 +41,8 @@ top-small k a l u = go (decLt 12 k)
     go (no s) = omega arith
 
 -- so 64 bits have 51 leading zeros more than the width has doublings
-pub leading-doublings : (a : ℕ) → 1 ≤ a → a < 8192 → (51 ≤ leadingZeros 64 a) × (leadingZeros 64 a ≤ 64) × (leadingZeros 64 a - 51 ≡ doublings 12 a)
+pub leading-doublings : (a : ℕ) → 1 ≤ a → a < 8192 → (51 ≤ leadingZeros 64 a) × (leadingZeros 64 a ≤ 64)
+    × (leadingZeros 64 a - 51 ≡ doublings 12 a)
 leading-doublings a h l =
     let t = leading-top 64 a h (omega arith) in
     let k : t .0 ≤ 12 = top-small (t .0) a (t .2) l in

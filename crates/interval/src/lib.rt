@@ -17,7 +17,8 @@ pub struct Coded {
     pub shifts: u64,
 }
 
-// How many doublings bring a width to 1000 hex or more: its highest bit tells. Of 64 bits, 1000 hex has 51 leading zeros.
+// How many doublings bring a width to 1000 hex or more: its highest bit tells. Of 64 bits, 1000 hex has 51 leading
+// zeros.
 fn shifts_for(width: u64) -> u64
     requires { ⌜ (1 ≤ width) × (width < 8192) ⌝ }
     ensures { λ r. ⌜ (r ≡ doublings 12 width) × (r ≤ 12) ⌝ }
@@ -88,8 +89,10 @@ impl Interval {
 
     // One pel.
     pub fn code(self, q: u64, expected: bool) -> Coded
-        requires { ⌜ (0x1000 ≤ self .width) × (self .width < 8192) × (1 ≤ q) × (q ≤ 0xAC1) × (self .low < 2 ^ 25) × (self .count < maxShifts) ⌝ }
-        ensures { λ r. ⌜ (r .interval ≡ coded (decision q expected) self) × (r .shifts ≡ doublings 12 (partOf (decision q expected) self .width)) ⌝ }
+        requires { ⌜ (0x1000 ≤ self .width) × (self .width < 8192) × (1 ≤ q) × (q ≤ 0xAC1) × (self .low < 2 ^ 25)
+            × (self .count < maxShifts) ⌝ }
+        ensures { λ r. ⌜ (r .interval ≡ coded (decision q expected) self)
+            × (r .shifts ≡ doublings 12 (partOf (decision q expected) self .width)) ⌝ }
     {
         let part = self.part(q, expected);
         part.grow()

@@ -21,11 +21,13 @@ use Rattle.desk.specs.Lawful.{all, lawfulTable, isZero, noStray}
 use Rattle.ground.proofs.Bools.{both, and-true}
 
 -- ---- the table
-all-set : {A : Type 0} (p : A → Bool) (s : List A) (i : ℕ) (a : A) → all p s ≡ true → p a ≡ true → all p (set s i a) ≡ true
+all-set : {A : Type 0} (p : A → Bool) (s : List A) (i : ℕ) (a : A) → all p s ≡ true → p a ≡ true
+    → all p (set s i a) ≡ true
 unfolding all
 all-set p [] i a h k = h
 all-set p (x ∷ s) zero a h k = and-true (p a) (all p s) k (both (p x) (all p s) h .1)
-all-set p (x ∷ s) (suc i) a h k = and-true (p x) (all p (set s i a)) (both (p x) (all p s) h .0) (all-set p s i a (both (p x) (all p s) h .1) k)
+all-set p (x ∷ s) (suc i) a h k = and-true (p x) (all p (set s i a)) (both (p x) (all p s) h .0)
+    (all-set p s i a (both (p x) (all p s) h .1) k)
 
 abbrev lawfulEntry : ℕ → Bool
 lawfulEntry e = leb (indexOf e) 29
@@ -38,29 +40,36 @@ module _ (width : ℕ) where
   unfolding placed
   placed-table table above this = go (eqb (length this) width)
     where
-      go : (b : Bool) → cond {A = Page} b (record { table = table; above = this; this = [] }) (record { table = table; above = above; this = this }) .table ≡ table
+      go : (b : Bool) → cond {A = Page} b (record { table = table; above = this; this = [] })
+          (record { table = table; above = above; this = this }) .table ≡ table
       go true = refl
       go false = refl
 
-  taught-lawful : (m : Page) (p : ℕ) (b : Bool) → lawfulTable (m .table) ≡ true → lawfulTable (taught qScheme width m p b) ≡ true
+  taught-lawful : (m : Page) (p : ℕ) (b : Bool) → lawfulTable (m .table) ≡ true
+      → lawfulTable (taught qScheme width m p b) ≡ true
   unfolding taught entryAt
   taught-lawful m p true h =
       all-set lawfulEntry (m .table) (contextOf qScheme width m) _ h
-      (entry-next (eqb p (sense qScheme width m)) (getD (m .table) (contextOf qScheme width m) 0) (all-get lawfulEntry (m .table) (contextOf qScheme width m) 0 h refl))
+      (entry-next (eqb p (sense qScheme width m)) (getD (m .table) (contextOf qScheme width m) 0)
+      (all-get lawfulEntry (m .table) (contextOf qScheme width m) 0 h refl))
   taught-lawful m p false h = h
 
-  after-lawful : (ps : List ℕ) (s : Stage (qPage width) qWriter) → lawfulTable (s .model .table) ≡ true → lawfulTable (after (qPage width) qWriter s ps .model .table) ≡ true
+  after-lawful : (ps : List ℕ) (s : Stage (qPage width) qWriter) → lawfulTable (s .model .table) ≡ true
+      → lawfulTable (after (qPage width) qWriter s ps .model .table) ≡ true
   unfolding after move
   after-lawful [] s h = h
   after-lawful (p ∷ ps) s h =
       after-lawful ps (step (qPage width) qWriter s p)
-      (subst (λ (t : List ℕ). lawfulTable t ≡ true) (sym (placed-table (taught qScheme width (s .model) p _) (s .model .above) (s .model .this ++ (p ∷ []))))
+      (subst (λ (t : List ℕ). lawfulTable t ≡ true)
+      (sym (placed-table (taught qScheme width (s .model) p _) (s .model .above) (s .model .this ++ (p ∷ []))))
       (taught-lawful (s .model) p _ h))
 
 -- the table after a band is lawful where the table before it was
-pub table-lawful : (width rows : ℕ) (table last band : List ℕ) → lawfulTable table ≡ true → lawfulTable (written width rows table last band .table) ≡ true
+pub table-lawful : (width rows : ℕ) (table last band : List ℕ) → lawfulTable table ≡ true
+    → lawfulTable (written width rows table last band .table) ≡ true
 unfolding written
-table-lawful width rows table last band h = after-lawful width (bandTo width band rows) (record { model = pageAt width table last; writer = qWriter .start }) h
+table-lawful width rows table last band h = after-lawful width (bandTo width band rows)
+    (record { model = pageAt width table last; writer = qWriter .start }) h
 
 -- ---- the last row
 zero-all : (n : ℕ) → isZero (replicate n 0) ≡ true
@@ -81,21 +90,27 @@ zero-get (suc n) (suc i) = zero-get n i
 
 padded-zero : (n w : ℕ) → rowPadded w (replicate n 0) ≡ true
 unfolding rowPadded
-padded-zero n w = eq-eqb (getD (replicate n 0) (rowBytes w - 1) 0 % 2 ^ (8 * rowBytes w - w)) 0 (ap (λ (k : ℕ). k % 2 ^ (8 * rowBytes w - w)) (zero-get n (rowBytes w - 1)) ∙ zero-mod (2 ^ (8 * rowBytes w - w)))
+padded-zero n w = eq-eqb (getD (replicate n 0) (rowBytes w - 1) 0 % 2 ^ (8 * rowBytes w - w)) 0
+    (ap (λ (k : ℕ). k % 2 ^ (8 * rowBytes w - w)) (zero-get n (rowBytes w - 1)) ∙ zero-mod (2 ^ (8 * rowBytes w - w)))
 
 -- a new page's last row has no stray bit
 pub white-clear : (width : ℕ) → noStray width white ≡ true
 unfolding noStray white
-white-clear width = and-true (rowPadded width (replicate lastBytes 0)) (isZero (drop (rowBytes width) (replicate lastBytes 0))) (padded-zero lastBytes width) (zero-drop lastBytes (rowBytes width))
+white-clear width = and-true (rowPadded width (replicate lastBytes 0))
+    (isZero (drop (rowBytes width) (replicate lastBytes 0))) (padded-zero lastBytes width)
+    (zero-drop lastBytes (rowBytes width))
 
 -- nor has the last row of a band whose padding bits are zero
-pub last-clear : (width rows : ℕ) (band : List ℕ) → 1 ≤ width → 1 ≤ rows → length band ≡ rows * rowBytes width → bandPadded width band rows ≡ true → noStray width (lastRow width rows band) ≡ true
+pub last-clear : (width rows : ℕ) (band : List ℕ) → 1 ≤ width → 1 ≤ rows → length band ≡ rows * rowBytes width
+    → bandPadded width band rows ≡ true → noStray width (lastRow width rows band) ≡ true
 unfolding noStray lastRow bandPadded rowPadded
 last-clear width zero band w r l h = absurd (omega arith)
 last-clear width (suc n) band w r l h =
-    subst (λ (m : ℕ). (rowPadded width (rowAt width band m ++ rest) && isZero (drop (rowBytes width) (rowAt width band m ++ rest))) ≡ true) less
+    subst (λ (m : ℕ). (rowPadded width (rowAt width band m ++ rest)
+    && isZero (drop (rowBytes width) (rowAt width band m ++ rest))) ≡ true) less
     (and-true (rowPadded width (row ++ rest)) (isZero (drop (rowBytes width) (row ++ rest)))
-    (rw (List·getD-append row rest 0 (rowBytes width - 1) (omega (arith, wide))) (both (bandPadded width band n) (rowPadded width row) h .1))
+    (rw (List·getD-append row rest 0 (rowBytes width - 1) (omega (arith, wide)))
+    (both (bandPadded width band n) (rowPadded width row) h .1))
     (rw (drop-at row rest (rowBytes width) wide) (zero-all (lastBytes - rowBytes width))))
   where
     less : n ≡ suc n - 1
@@ -108,4 +123,5 @@ last-clear width (suc n) band w r l h =
     rest = replicate (lastBytes - rowBytes width) 0
 
     wide : length row ≡ rowBytes width
-    wide = length-take-le (rowBytes width) (drop (n * rowBytes width) band) (rw length-drop (omega (arith, suc-mul n (rowBytes width))))
+    wide = length-take-le (rowBytes width) (drop (n * rowBytes width) band)
+        (rw length-drop (omega (arith, suc-mul n (rowBytes width))))

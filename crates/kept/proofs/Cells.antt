@@ -35,7 +35,8 @@ module _ (d : Desk) (s : Sound d) (k : Key) where
       go Nothing = refl
 
   table-pick : learnedTable d k ≡ mapped (λ (q : Place). q .table) (pick (isTableOf k) (d .places))
-  table-pick = go (tableFound d k) ∙ ap (mapped (λ (q : Place). q .table)) (value-found (isTableOf k) noPlace (d .places))
+  table-pick = go (tableFound d k) ∙ ap (mapped (λ (q : Place). q .table)) (value-found (isTableOf k) noPlace
+      (d .places))
     where
       go : (f : Found) → tableBy d f ≡ mapped (λ (q : Place). q .table) (valueAt f (d .places) noPlace)
       go (At i) = refl
@@ -64,13 +65,15 @@ module _ (d : Desk) (s : Sound d) (k : Key) where
   place-free-found = found-given isFreePlace (d .places) 0 ∙ sym (place-free (d .places))
 
   -- ---- the open page and the learned table are lawful
-  pub page-own : (p : Page) → openPage d k ≡ some p → (isUsed (p .state) ≡ true) × (sameKey (p .key) k ≡ true) × (lawfulPage p ≡ true)
+  pub page-own : (p : Page) → openPage d k ≡ some p → (isUsed (p .state) ≡ true) × (sameKey (p .key) k ≡ true)
+      × (lawfulPage p ≡ true)
   page-own p e =
       let f : pick (isPageOf k) (d .pages) ≡ some p = sym page-pick ∙ e in
       let u = both (isUsed (p .state)) (sameKey (p .key) k) (pick-passes (isPageOf k) (d .pages) p f) in
       (u .0, u .1, pick-all lawfulPage (isPageOf k) (d .pages) p (s .pages-lawful) f)
 
-  pub place-own : (t : Table) → learnedTable d k ≡ some t → (q : Place) × (q .table ≡ t) × (isLearned (q .state) ≡ true) × (lawfulPlace q ≡ true)
+  pub place-own : (t : Table) → learnedTable d k ≡ some t → (q : Place) × (q .table ≡ t)
+      × (isLearned (q .state) ≡ true) × (lawfulPlace q ≡ true)
   place-own t h = go (pick (isTableOf k) (d .places)) refl (sym table-pick ∙ h)
     where
       go : (o : Option Place) → pick (isTableOf k) (d .places) ≡ o → mapped (λ (q : Place). q .table) o ≡ some t

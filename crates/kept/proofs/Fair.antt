@@ -58,7 +58,8 @@ facts-page p f = rw (f .used, f .state, f .key, f .width, f .table, f .clear)
 place-table : (q : Place) → lawfulPlace q ≡ true → isLearned (q .state) ≡ true → lawfulTable (q .table .entries) ≡ true
 unfolding lawfulPlace
 place-table q h l =
-    both (lawfulKey (q .key)) (lawfulTable (q .table .entries)) (both (leb (q .state) 2) _ (rw (learned-used (q .state) l, l) at h) .1) .1
+    both (lawfulKey (q .key)) (lawfulTable (q .table .entries))
+    (both (leb (q .state) 2) _ (rw (learned-used (q .state) l, l) at h) .1) .1
 
 -- ---- what a call meets at a lawful desk
 abbrev pub under : Stand → Cell Table Page
@@ -105,14 +106,16 @@ shown false p k e m = no-way (sym e)
 
 module _ (k : Key) (s : Stand) (o : Owned k s) where
   -- a band served: its table and last row
-  pub band-fair : (rows : ℕ) (pels : List ℕ) → given (s .page) ≡ true → 1 ≤ rows → length pels ≡ rows * rowBytes (pageOf s .width) → bandPadded
+  pub band-fair : (rows : ℕ) (pels : List ℕ) → given (s .page) ≡ true → 1 ≤ rows → length pels ≡ rows * rowBytes
+      (pageOf s .width) → bandPadded
       (pageOf s .width) pels rows ≡ true
       → LawfulPage k (becomes (servedPage (pageOf s) (bandOf (pageOf s) rows pels)))
   unfolding servedPage bandOf written
   band-fair rows pels g r l h =
       let p : Page = pageOf s in
       let f = o .page p (held (s .page) noPage g) in
-      let wide : 1 ≤ p .width = leb-true 1 (p .width) (both (leb 1 (p .width)) (leb (p .width) maxWidth) (f .0 .width) .0) in
+      let wide : 1 ≤ p .width = leb-true 1 (p .width) (both (leb 1 (p .width)) (leb (p .width) maxWidth)
+      (f .0 .width) .0) in
       let w : Written = written (p .width) rows (p .table .entries) (p .last) pels in (
         shown (isUsed (p .state)) (servedPage p w) k (f .0 .used) (f .1),
         facts-page (servedPage p w)
@@ -127,8 +130,10 @@ module _ (k : Key) (s : Stand) (o : Owned k s) where
       )
 
   -- a band read, where one was found
-  pub found-fair : (rows : ℕ) (code : List ℕ) (f : Option (List ℕ)) → Right (pageOf s .width) rows (pageOf s .table .entries) (pageOf s .last) code f
-      → not (given f) ≡ false → given (s .page) ≡ true → 1 ≤ rows → LawfulPage k (becomes (servedPage (pageOf s) (bandOf (pageOf s) rows
+  pub found-fair : (rows : ℕ) (code : List ℕ) (f : Option (List ℕ)) → Right (pageOf s .width) rows
+      (pageOf s .table .entries) (pageOf s .last) code f
+      → not (given f) ≡ false → given (s .page) ≡ true → 1 ≤ rows
+      → LawfulPage k (becomes (servedPage (pageOf s) (bandOf (pageOf s) rows
       (orElse f []))))
   found-fair rows code (some band) r h g n = band-fair rows band g n (r .0 .size) (r .0 .padded)
   found-fair rows code none r h g n = no-way h

@@ -57,23 +57,28 @@ valueAt (At i) s z = some (getD s i z)
 valueAt Nothing s z = none
 
 -- with the index written as an offset, so that nothing is subtracted
-found-from : {A : Type 0} (t : A → Bool) (z a : A) (s : List A) (b i : ℕ) → findBy t s b ≡ At i → (n : ℕ) × (i ≡ b + n) × (some (getD s n z) ≡ pick t s) × (set s n a ≡ atFirst t a s)
+found-from : {A : Type 0} (t : A → Bool) (z a : A) (s : List A) (b i : ℕ) → findBy t s b ≡ At i → (n : ℕ) × (i ≡ b + n)
+    × (some (getD s n z) ≡ pick t s) × (set s n a ≡ atFirst t a s)
 unfolding findBy atFirst pick
 found-from t z a [] b i e = no-way (ap isFound (sym e))
 found-from {A} t z a (x ∷ s) b i e = go (t x) e (λ f. found-from t z a s (suc b) i f)
   where
     go : (v : Bool) → cond v (At b) (findBy t s (suc b)) ≡ At i
-        → (findBy t s (suc b) ≡ At i → (n : ℕ) × (i ≡ suc b + n) × (some (getD s n z) ≡ pick t s) × (set s n a ≡ atFirst t a s))
-        → (n : ℕ) × (i ≡ b + n) × (some (getD (x ∷ s) n z) ≡ cond v (some x) (pick t s)) × (set (x ∷ s) n a ≡ cond v (a ∷ s) (x ∷ atFirst t a s))
+        → (findBy t s (suc b) ≡ At i → (n : ℕ) × (i ≡ suc b + n) × (some (getD s n z) ≡ pick t s)
+        × (set s n a ≡ atFirst t a s))
+        → (n : ℕ) × (i ≡ b + n) × (some (getD (x ∷ s) n z) ≡ cond v (some x) (pick t s))
+        × (set (x ∷ s) n a ≡ cond v (a ∷ s) (x ∷ atFirst t a s))
     go true f ih = let q : b ≡ i = cc in (0, omega arith, refl, refl)
     go false f ih = let (n, p, q, r) = ih f in (suc n, omega arith, q, ap (λ l. x ∷ l) r)
 
-found-none : {A : Type 0} (t : A → Bool) (a : A) (s : List A) (b : ℕ) → findBy t s b ≡ Nothing → (none ≡ pick t s) × (s ≡ atFirst t a s)
+found-none : {A : Type 0} (t : A → Bool) (a : A) (s : List A) (b : ℕ) → findBy t s b ≡ Nothing → (none ≡ pick t s)
+    × (s ≡ atFirst t a s)
 unfolding findBy atFirst pick
 found-none t a [] b e = (refl, refl)
 found-none {A} t a (x ∷ s) b e = go (t x) e (found-none t a s (suc b))
   where
-    go : (v : Bool) → cond v (At b) (findBy t s (suc b)) ≡ Nothing → (findBy t s (suc b) ≡ Nothing → (none ≡ pick t s) × (s ≡ atFirst t a s))
+    go : (v : Bool) → cond v (At b) (findBy t s (suc b)) ≡ Nothing → (findBy t s (suc b) ≡ Nothing → (none ≡ pick t s)
+        × (s ≡ atFirst t a s))
         → (none ≡ cond v (some x) (pick t s)) × (x ∷ s ≡ cond v (a ∷ s) (x ∷ atFirst t a s))
     go true f ih = no-way (ap isFound f)
     go false f ih = (ih f .0, ap (λ l. x ∷ l) (ih f .1))
@@ -93,7 +98,8 @@ set-found {A} t a s = go (findBy t s 0) refl
     go Nothing e = found-none t a s 0 e .1
 
 -- ---- a change at the first that passes
-pub all-first : {A : Type 0} (p t : A → Bool) (a : A) (s : List A) → all p s ≡ true → p a ≡ true → all p (atFirst t a s) ≡ true
+pub all-first : {A : Type 0} (p t : A → Bool) (a : A) (s : List A) → all p s ≡ true → p a ≡ true
+    → all p (atFirst t a s) ≡ true
 unfolding atFirst all
 all-first p t a [] h k = refl
 all-first {A} p t a (x ∷ s) h k = go (t x) (all-first p t a s (both (p x) (all p s) h .1) k)

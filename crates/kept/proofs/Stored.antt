@@ -12,7 +12,8 @@ use Rattle.estimate.specs.declared.Table.{Table}
 use Rattle.band.specs.Band.{white}
 use Rattle.desk.specs.declared.Key.{Key}
 use Rattle.desk.specs.Desk.{Page, Place, Desk}
-use Rattle.desk.specs.Places.{zeroTable, unusedPage, freePlace, sameKey, isPageOf, isPlaceOf, isTableOf, isFreePage, isFreePlace}
+use Rattle.desk.specs.Places.{zeroTable, unusedPage, freePlace, sameKey, isPageOf, isPlaceOf, isTableOf, isFreePage}
+use Rattle.desk.specs.Places.{isFreePlace}
 use Rattle.desk.specs.Places.{pageFound, placeFound, tableFound, freePageFound, freePlaceFound, isFound}
 use Rattle.desk.specs.Lawful.{all, lawfulKey, lawfulTable, lawfulPage, lawfulPlace}
 use Rattle.desk.specs.Effects.{Change, stays, gone, becomes, afterwards}
@@ -21,7 +22,9 @@ use Rattle.kept.proofs.Lists.{set-found, all-first}
 use Rattle.kept.proofs.View.{K, viewPage, viewPlace, Shelf, shelves}
 use Rattle.kept.proofs.Sound.{Sound}
 use Rattle.kept.proofs.Cells.{cellOf, page-found, table-found}
-use Rattle.kept.proofs.Changes.{Places, page-gone, page-changed, page-taken, page-kept, place-freed, place-changed, place-taken, place-kept, table-freed, store-by, place-given, paged, learned-same, open-same}
+use Rattle.kept.proofs.Changes.{Places, page-gone, page-changed, page-taken, page-kept, place-freed}
+use Rattle.kept.proofs.Changes.{place-changed, place-taken, place-kept, table-freed, store-by, place-given}
+use Rattle.kept.proofs.Changes.{paged, learned-same, open-same}
 
 -- the cell y is stored under k
 pub record Stored (d d′ : Desk) (k : Key) (y : Cell Table Page) : Type 0 where
@@ -36,21 +39,25 @@ stored-sound d d′ k y s c =
     record {
       pages-lawful = c .pages-lawful;
       places-lawful = c .places-lawful;
-      fitting = subst (λ (z : Shelf). Fitting K Table Page z) (sym (c .shelved)) (fitting-store K Table Page (shelves d) (s .fitting) k y
+      fitting = subst (λ (z : Shelf). Fitting K Table Page z) (sym (c .shelved))
+          (fitting-store K Table Page (shelves d) (s .fitting) k y
           (c .page-room) (c .place-room));
     }
 
 -- other keys see no change
-pub stored-others : (d d′ : Desk) (k : Key) (y : Cell Table Page) → Sound d → Stored d d′ k y → (j : Key) → sameKey k j ≡ false → cellOf d′ j
+pub stored-others : (d d′ : Desk) (k : Key) (y : Cell Table Page) → Sound d → Stored d d′ k y → (j : Key)
+    → sameKey k j ≡ false → cellOf d′ j
     ≡ cellOf d j
 stored-others d d′ k y s c j n =
-    ap (λ (z : Shelf). cellAt K Table Page z j) (c .shelved) ∙ other-cell K Table Page (shelves d) (s .fitting) k y (c .page-room) (c .place-room) j n
+    ap (λ (z : Shelf). cellAt K Table Page z j) (c .shelved) ∙ other-cell K Table Page (shelves d) (s .fitting) k y
+    (c .page-room) (c .place-room) j n
 
 -- ---- a change, and the cell that it leaves
 abbrev pub cellAfter : Cell Table Page → Change Page → Change Table → Cell Table Page
 cellAfter x p t = cell (afterwards (x .learned) t) (afterwards (x .page) p)
 
--- The changes that calls make. A page goes only where one is open; a table is forgotten, or put in without a page's closing, only where none is.
+-- The changes that calls make. A page goes only where one is open; a table is forgotten, or put in without a page's
+-- closing, only where none is.
 abbrev pub Clean : Cell Table Page → Change Page → Change Table → Type 0
 Clean x stays stays = Unit {0}
 Clean x stays gone = (x .page ≡ none) × (given (x .learned) ≡ true)
@@ -82,7 +89,8 @@ free-lawful : lawfulPlace freePlace ≡ true
 unfolding lawfulPlace freePlace zeroTable all
 free-lawful = refl
 
-learned-lawful : (k : Key) (t : Table) → lawfulKey k ≡ true → lawfulTable (t .entries) ≡ true → lawfulPlace (learnedPlace k t)
+learned-lawful : (k : Key) (t : Table) → lawfulKey k ≡ true → lawfulTable (t .entries) ≡ true
+    → lawfulPlace (learnedPlace k t)
     ≡ true
 unfolding lawfulPlace learnedPlace
 learned-lawful k t h l = rw (h, l)
@@ -97,13 +105,17 @@ module _ (d : Desk) (s : Sound d) (k : Key) (known : lawfulKey k ≡ true) where
 
   -- ---- the pages
   pages-stored : (p : Change Page) (t : Change Table) → Clean x p t → LawfulPage k p
-      → (map viewPage (pagesAfter d k p) ≡ update K Page k (afterwards (x .page) p) (map viewPage (d .pages))) × (all lawfulPage (pagesAfter d k p)
+      → (map viewPage (pagesAfter d k p) ≡ update K Page k (afterwards (x .page) p) (map viewPage (d .pages)))
+      × (all lawfulPage (pagesAfter d k p)
       ≡ true)
   unfolding pagesAfter
   pages-stored stays t c l = (page-kept d s k (x .page) refl, s .pages-lawful)
   pages-stored gone t c l =
-      rw (set-found (isPageOf k) unusedPage (d .pages))
-      (page-gone d s k (going t c), all-first lawfulPage (isPageOf k) unusedPage (d .pages) (s .pages-lawful) unused-lawful)
+      rw (set-found (isPageOf k) unusedPage (d .pages)) (
+        page-gone d s k (going t c),
+        all-first lawfulPage (isPageOf k) unusedPage (d .pages) (s .pages-lawful)
+            unused-lawful,
+      )
     where
       going : (t : Change Table) → Clean x gone t → given (x .page) ≡ true
       going stays c = c
@@ -112,28 +124,38 @@ module _ (d : Desk) (s : Sound d) (k : Key) (known : lawfulKey k ≡ true) where
   pages-stored (becomes p) t c l = go (isFound (pageFound d k)) refl
     where
       go : (b : Bool) → isFound (pageFound d k) ≡ b
-          → (map viewPage (setAt (cond b (pageFound d k) (freePageFound d)) p (d .pages)) ≡ update K Page k (some p) (map viewPage (d .pages)))
+          → (map viewPage (setAt (cond b (pageFound d k) (freePageFound d)) p (d .pages)) ≡ update K Page k (some p)
+          (map viewPage (d .pages)))
           × (all lawfulPage (setAt (cond b (pageFound d k) (freePageFound d)) p (d .pages)) ≡ true)
       go true e =
-          rw (set-found (isPageOf k) p (d .pages))
-          (page-changed d s k p (sym (page-found d s k) ∙ e) (l .0), all-first lawfulPage (isPageOf k) p (d .pages) (s .pages-lawful) (l .1))
+          rw (set-found (isPageOf k) p (d .pages)) (
+            page-changed d s k p (sym (page-found d s k) ∙ e) (l .0),
+            all-first lawfulPage (isPageOf k) p (d .pages)
+                (s .pages-lawful) (l .1),
+          )
       go false e =
-          rw (set-found isFreePage p (d .pages))
-          (page-taken d s k p (sym (page-found d s k) ∙ e) (l .0), all-first lawfulPage isFreePage p (d .pages) (s .pages-lawful) (l .1))
+          rw (set-found isFreePage p (d .pages)) (
+            page-taken d s k p (sym (page-found d s k) ∙ e) (l .0),
+            all-first lawfulPage isFreePage p (d .pages)
+                (s .pages-lawful) (l .1),
+          )
 
   -- ---- the places
   abbrev PlacesStored : List Place → Change Page → Change Table → Type 0
   PlacesStored qs p t =
-      (map viewPlace qs ≡ update K (Option Table) k (placeOf (afterwards (x .learned) t) (afterwards (x .page) p)) (Places d s k)) ×
+      (map viewPlace qs ≡ update K (Option Table) k (placeOf (afterwards (x .learned) t) (afterwards (x .page) p))
+      (Places d s k)) ×
       (all lawfulPlace qs ≡ true)
 
   -- a table learned: in the class's place, or in the lowest free one
-  learned-stored : (p : Change Page) (t : Table) → lawfulTable (t .entries) ≡ true → PlacesStored (setAt (orFree (placeFound d k)
+  learned-stored : (p : Change Page) (t : Table) → lawfulTable (t .entries) ≡ true
+      → PlacesStored (setAt (orFree (placeFound d k)
       (freePlaceFound d)) (learnedPlace k t) (d .places)) p (becomes t)
   unfolding learnedPlace
   learned-stored p t l = go (isFound (placeFound d k)) refl
     where
-      go : (b : Bool) → isFound (placeFound d k) ≡ b → PlacesStored (setAt (cond b (placeFound d k) (freePlaceFound d)) (learnedPlace k t)
+      go : (b : Bool) → isFound (placeFound d k) ≡ b → PlacesStored (setAt (cond b (placeFound d k) (freePlaceFound d))
+          (learnedPlace k t)
           (d .places)) p (becomes t)
       go true e =
           rw (set-found (isPlaceOf k) (learnedPlace k t) (d .places)) (
@@ -157,15 +179,18 @@ module _ (d : Desk) (s : Sound d) (k : Key) (known : lawfulKey k ≡ true) where
       freed none h = refl
       freed (some t) h = no-way h
 
-      go : (b : Bool) → isFound (tableFound d k) ≡ b → PlacesStored (cond b (d .places) (setAt (placeFound d k) freePlace (d .places))) gone stays
+      go : (b : Bool) → isFound (tableFound d k) ≡ b
+          → PlacesStored (cond b (d .places) (setAt (placeFound d k) freePlace (d .places))) gone stays
       go true e = (
-        place-kept d s k (placeOf (x .learned) none) (learned-same d s k (x .learned) (x .page) none (sym (table-found d s k)
+        place-kept d s k (placeOf (x .learned) none) (learned-same d s k (x .learned) (x .page) none
+            (sym (table-found d s k)
             ∙ e)),
         s .places-lawful,
       )
       go false e =
           rw (set-found (isPlaceOf k) freePlace (d .places)) (
-            place-freed d s k (paged d s k (x .page) (x .learned) g) ∙ ap (λ (o : Option (Option Table)). update K (Option Table) k o
+            place-freed d s k (paged d s k (x .page) (x .learned) g) ∙ ap (λ (o : Option (Option Table)). update K
+                (Option Table) k o
                 (Places d s k)) (sym (freed (x .learned) (sym (table-found d s k) ∙ e))),
             all-first lawfulPlace (isPlaceOf k) freePlace (d .places) (s .places-lawful) free-lawful,
           )
@@ -185,9 +210,11 @@ module _ (d : Desk) (s : Sound d) (k : Key) (known : lawfulKey k ≡ true) where
       unplaced (some t) o a b = no-way a
 
       go : (a b : Bool) → isFound (pageFound d k) ≡ a → isFound (tableFound d k) ≡ b
-          → PlacesStored (cond (a || b) (d .places) (setAt (freePlaceFound d) (reservedPlace k) (d .places))) (becomes p) stays
+          → PlacesStored (cond (a || b) (d .places) (setAt (freePlaceFound d) (reservedPlace k) (d .places)))
+          (becomes p) stays
       go true b e f = (
-        place-kept d s k (placeOf (x .learned) (some p)) (open-same d s k (x .learned) (x .page) (some p) (sym (page-found d s k)
+        place-kept d s k (placeOf (x .learned) (some p)) (open-same d s k (x .learned) (x .page) (some p)
+            (sym (page-found d s k)
             ∙ e) refl),
         s .places-lawful,
       )
@@ -198,20 +225,27 @@ module _ (d : Desk) (s : Sound d) (k : Key) (known : lawfulKey k ≡ true) where
       )
       go false false e f =
           rw (set-found isFreePlace (reservedPlace k) (d .places)) (
-            place-taken d s k (reservedPlace k) none (unplaced (x .learned) (x .page) (sym (table-found d s k) ∙ f) (sym (page-found d s k) ∙ e)) refl
-                ∙ ap (λ (o : Option (Option Table)). update K (Option Table) k o (Places d s k)) (sym (reserved (x .learned) (sym
+            place-taken d s k (reservedPlace k) none (unplaced (x .learned) (x .page) (sym (table-found d s k) ∙ f)
+                (sym (page-found d s k) ∙ e)) refl
+                ∙ ap (λ (o : Option (Option Table)). update K (Option Table) k o (Places d s k))
+                (sym (reserved (x .learned) (sym
                 (table-found d s k) ∙ f))),
-            all-first lawfulPlace isFreePlace (reservedPlace k) (d .places) (s .places-lawful) (reserved-lawful k known),
+            all-first lawfulPlace isFreePlace (reservedPlace k) (d .places) (s .places-lawful)
+                (reserved-lawful k known),
           )
 
   -- a table forgotten
   forgotten-stored : x .page ≡ none → given (x .learned) ≡ true → PlacesStored (placesAfter d k stays gone) stays gone
   unfolding placesAfter
   forgotten-stored g h =
-      rw (set-found (isTableOf k) freePlace (d .places), g)
-      (table-freed d s k (table-found d s k ∙ h), all-first lawfulPlace (isTableOf k) freePlace (d .places) (s .places-lawful) free-lawful)
+      rw (set-found (isTableOf k) freePlace (d .places), g) (
+        table-freed d s k (table-found d s k ∙ h),
+        all-first lawfulPlace (isTableOf k) freePlace (d .places)
+            (s .places-lawful) free-lawful,
+      )
 
-  places-stored : (p : Change Page) (t : Change Table) → Clean x p t → LawfulTable t → PlacesStored (placesAfter d k p t) p t
+  places-stored : (p : Change Page) (t : Change Table) → Clean x p t → LawfulTable t
+      → PlacesStored (placesAfter d k p t) p t
   unfolding placesAfter
   places-stored stays stays c l = (place-kept d s k (placeOf (x .learned) (x .page)) refl, s .places-lawful)
   places-stored stays gone c l = forgotten-stored (c .0) (c .1)
@@ -225,14 +259,16 @@ module _ (d : Desk) (s : Sound d) (k : Key) (known : lawfulKey k ≡ true) where
 
   -- ---- any change of a call, where there is room for it
   pub changed-stored : (p : Change Page) (t : Change Table) → Clean x p t → LawfulPage k p → LawfulTable t
-      → noSlot K Table Page (shelves d) k (cellAfter x p t) ≡ false → noClassPlace K Table Page (shelves d) k (cellAfter x p t) ≡ false
+      → noSlot K Table Page (shelves d) k (cellAfter x p t) ≡ false → noClassPlace K Table Page (shelves d) k
+      (cellAfter x p t) ≡ false
       → Stored d (changed d k p t) k (cellAfter x p t)
   unfolding changed
   changed-stored p t c l m f g =
       let a = pages-stored p t c l in
       let b = places-stored p t c m in
       record {
-        shelved = store-by d s k (record { pages = pagesAfter d k p; places = placesAfter d k p t }) (cellAfter x p t) (a .0) (b .0);
+        shelved = store-by d s k (record { pages = pagesAfter d k p; places = placesAfter d k p t }) (cellAfter x p t)
+            (a .0) (b .0);
         page-room = f;
         place-room = g;
         pages-lawful = a .1;

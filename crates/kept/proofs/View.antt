@@ -94,17 +94,20 @@ page-read k [] = refl
 page-read k (p ∷ s) = go (isUsed (p .state)) (page-read k s)
   where
     go : (b : Bool) → find K Page k (map viewPage s) ≡ pick (isPageOf k) s
-        → find K Page k (viewPageBy b p ∷ map viewPage s) ≡ cond (b && sameKey (p .key) k) (some p) (pick (isPageOf k) s)
+        → find K Page k (viewPageBy b p ∷ map viewPage s) ≡ cond (b && sameKey (p .key) k) (some p)
+        (pick (isPageOf k) s)
     go true ih = ap (cond (sameKey (p .key) k) (some p)) ih
     go false ih = ih
 
-pub place-read : (k : Key) (s : List Place) → find K (Option Table) k (map viewPlace s) ≡ mapped learnedIn (pick (isPlaceOf k) s)
+pub place-read : (k : Key) (s : List Place) → find K (Option Table) k (map viewPlace s) ≡ mapped learnedIn
+    (pick (isPlaceOf k) s)
 unfolding find pick
 place-read k [] = refl
 place-read k (q ∷ s) = go (isUsed (q .state)) (place-read k s)
   where
     inner : (b : Bool) → find K (Option Table) k (map viewPlace s) ≡ mapped learnedIn (pick (isPlaceOf k) s)
-        → cond b (some (learnedIn q)) (find K (Option Table) k (map viewPlace s)) ≡ mapped learnedIn (cond b (some q) (pick (isPlaceOf k) s))
+        → cond b (some (learnedIn q)) (find K (Option Table) k (map viewPlace s)) ≡ mapped learnedIn
+        (cond b (some q) (pick (isPlaceOf k) s))
     inner true ih = refl
     inner false ih = ih
 
@@ -116,24 +119,33 @@ place-read k (q ∷ s) = go (isUsed (q .state)) (place-read k s)
 
 -- ---- a change at the first that passes, seen as slots
 module _ (k : Key) where
-  pub pages-first : (p : Page) (s : List Page) → map viewPage (atFirst (isPageOf k) p s) ≡ atFirst (hasName K Page k) (viewPage p) (map viewPage s)
-  pages-first p s = ap (λ (t : Page → Bool). map viewPage (atFirst t p s)) (sym (fun-ext (page-test k))) ∙ map-first viewPage (hasName K Page k) p s
+  pub pages-first : (p : Page) (s : List Page) → map viewPage (atFirst (isPageOf k) p s) ≡ atFirst (hasName K Page k)
+      (viewPage p) (map viewPage s)
+  pages-first p s = ap (λ (t : Page → Bool). map viewPage (atFirst t p s)) (sym (fun-ext (page-test k)))
+      ∙ map-first viewPage (hasName K Page k) p s
 
-  pub places-first : (q : Place) (s : List Place) → map viewPlace (atFirst (isPlaceOf k) q s) ≡ atFirst (hasName K (Option Table) k) (viewPlace q) (map viewPlace s)
-  places-first q s = ap (λ (t : Place → Bool). map viewPlace (atFirst t q s)) (sym (fun-ext (place-test k))) ∙ map-first viewPlace (hasName K (Option Table) k) q s
+  pub places-first : (q : Place) (s : List Place) → map viewPlace (atFirst (isPlaceOf k) q s) ≡ atFirst
+      (hasName K (Option Table) k) (viewPlace q) (map viewPlace s)
+  places-first q s = ap (λ (t : Place → Bool). map viewPlace (atFirst t q s)) (sym (fun-ext (place-test k)))
+      ∙ map-first viewPlace (hasName K (Option Table) k) q s
 
-pub pages-free : (p : Page) (s : List Page) → map viewPage (atFirst isFreePage p s) ≡ atFirst (isFree K Page) (viewPage p) (map viewPage s)
-pages-free p s = ap (λ (t : Page → Bool). map viewPage (atFirst t p s)) (sym (fun-ext free-page-test)) ∙ map-first viewPage (isFree K Page) p s
+pub pages-free : (p : Page) (s : List Page) → map viewPage (atFirst isFreePage p s) ≡ atFirst (isFree K Page)
+    (viewPage p) (map viewPage s)
+pages-free p s = ap (λ (t : Page → Bool). map viewPage (atFirst t p s)) (sym (fun-ext free-page-test))
+    ∙ map-first viewPage (isFree K Page) p s
 
-pub places-free : (q : Place) (s : List Place) → map viewPlace (atFirst isFreePlace q s) ≡ atFirst (isFree K (Option Table)) (viewPlace q) (map viewPlace s)
-places-free q s = ap (λ (t : Place → Bool). map viewPlace (atFirst t q s)) (sym (fun-ext free-place-test)) ∙ map-first viewPlace (isFree K (Option Table)) q s
+pub places-free : (q : Place) (s : List Place) → map viewPlace (atFirst isFreePlace q s) ≡ atFirst
+    (isFree K (Option Table)) (viewPlace q) (map viewPlace s)
+places-free q s = ap (λ (t : Place → Bool). map viewPlace (atFirst t q s)) (sym (fun-ext free-place-test))
+    ∙ map-first viewPlace (isFree K (Option Table)) q s
 
 pub page-free : (s : List Page) → free K Page (map viewPage s) ≡ given (pick isFreePage s)
 unfolding free pick
 page-free [] = refl
 page-free (p ∷ s) = go (eqb (p .state) 0) (page-free s)
   where
-    go : (b : Bool) → free K Page (map viewPage s) ≡ given (pick isFreePage s) → free K Page (viewPageBy (not b) p ∷ map viewPage s) ≡ given (cond b (some p) (pick isFreePage s))
+    go : (b : Bool) → free K Page (map viewPage s) ≡ given (pick isFreePage s)
+        → free K Page (viewPageBy (not b) p ∷ map viewPage s) ≡ given (cond b (some p) (pick isFreePage s))
     go true ih = refl
     go false ih = ih
 
@@ -142,7 +154,8 @@ unfolding free pick
 place-free [] = refl
 place-free (q ∷ s) = go (eqb (q .state) 0) (place-free s)
   where
-    go : (b : Bool) → free K (Option Table) (map viewPlace s) ≡ given (pick isFreePlace s) → free K (Option Table) (viewPlaceBy (not b) q ∷ map viewPlace s) ≡ given (cond b (some q) (pick isFreePlace s))
+    go : (b : Bool) → free K (Option Table) (map viewPlace s) ≡ given (pick isFreePlace s)
+        → free K (Option Table) (viewPlaceBy (not b) q ∷ map viewPlace s) ≡ given (cond b (some q) (pick isFreePlace s))
     go true ih = refl
     go false ih = ih
 
@@ -153,9 +166,11 @@ learned-used n h = rw (eqb-true n 2 h)
 no-place-no-table : (k : Key) (s : List Place) → pick (isPlaceOf k) s ≡ none → pick (isTableOf k) s ≡ none
 unfolding pick
 no-place-no-table k [] h = refl
-no-place-no-table k (q ∷ s) h = go (isUsed (q .state)) (isLearned (q .state)) (sameKey (q .key) k) (learned-used (q .state)) h (no-place-no-table k s)
+no-place-no-table k (q ∷ s) h = go (isUsed (q .state)) (isLearned (q .state)) (sameKey (q .key) k)
+    (learned-used (q .state)) h (no-place-no-table k s)
   where
-    go : (u l e : Bool) → (l ≡ true → u ≡ true) → cond (u && e) (some q) (pick (isPlaceOf k) s) ≡ none → (pick (isPlaceOf k) s ≡ none → pick (isTableOf k) s ≡ none)
+    go : (u l e : Bool) → (l ≡ true → u ≡ true) → cond (u && e) (some q) (pick (isPlaceOf k) s) ≡ none
+        → (pick (isPlaceOf k) s ≡ none → pick (isTableOf k) s ≡ none)
         → cond (l && e) (some q) (pick (isTableOf k) s) ≡ none
     go true true true i h ih = no-way (ap given h)
     go true false true i h ih = no-way (ap given h)
@@ -178,37 +193,47 @@ TableStep k q s u l =
     (join (find K (Option Table) k (viewPlaceBy u q ∷ map viewPlace s))
     ≡ mapped (λ (q : Place). q .table) (cond (l && sameKey (q .key) k) (some q) (pick (isTableOf k) s)))
     × ((a : Place) → given (cond (l && sameKey (q .key) k) (some q) (pick (isTableOf k) s)) ≡ true
-    → cond (l && sameKey (q .key) k) (a ∷ s) (q ∷ atFirst (isTableOf k) a s) ≡ cond (u && sameKey (q .key) k) (a ∷ s) (q ∷ atFirst (isPlaceOf k) a s))
+    → cond (l && sameKey (q .key) k) (a ∷ s) (q ∷ atFirst (isTableOf k) a s) ≡ cond (u && sameKey (q .key) k) (a ∷ s)
+    (q ∷ atFirst (isPlaceOf k) a s))
 
 table-both : (k : Key) (s : List Place) → Lone K (Option Table) (map viewPlace s) → TableFirst k s
 unfolding find pick atFirst Lone
 table-both k [] h = record { read = refl; first = λ a g. refl }
 table-both k (q ∷ s) h =
-    let r : TableStep k q s (isUsed (q .state)) (isLearned (q .state)) = go (isUsed (q .state)) refl h (λ l. table-both k s l) in
+    let r : TableStep k q s (isUsed (q .state)) (isLearned (q .state)) = go (isUsed (q .state)) refl h
+    (λ l. table-both k s l) in
     record { read = r .0; first = r .1 }
   where
-    same-key : (l e : Bool) → sameKey (q .key) k ≡ e → find K (Option Table) (q .key) (map viewPlace s) ≡ none → TableFirst k s
-        → (join (cond e (some (learnedBy l q)) (find K (Option Table) k (map viewPlace s))) ≡ mapped (λ (q : Place). q .table) (cond (l && e) (some q) (pick (isTableOf k) s)))
-        × ((a : Place) → given (cond (l && e) (some q) (pick (isTableOf k) s)) ≡ true → cond (l && e) (a ∷ s) (q ∷ atFirst (isTableOf k) a s) ≡ cond e (a ∷ s) (q ∷ atFirst (isPlaceOf k) a s))
+    same-key : (l e : Bool) → sameKey (q .key) k ≡ e → find K (Option Table) (q .key) (map viewPlace s) ≡ none
+        → TableFirst k s
+        → (join (cond e (some (learnedBy l q)) (find K (Option Table) k (map viewPlace s))) ≡ mapped
+        (λ (q : Place). q .table) (cond (l && e) (some q) (pick (isTableOf k) s)))
+        × ((a : Place) → given (cond (l && e) (some q) (pick (isTableOf k) s)) ≡ true
+        → cond (l && e) (a ∷ s) (q ∷ atFirst (isTableOf k) a s) ≡ cond e (a ∷ s) (q ∷ atFirst (isPlaceOf k) a s))
     same-key true true j n r = (refl, (λ a g. refl))
     same-key false true j n r =
         let m : pick (isTableOf k) s ≡ none
         = no-place-no-table k s (nothing-mapped learnedIn (pick (isPlaceOf k) s)
-        (sym (place-read k s) ∙ subst (λ (j : Key). find K (Option Table) j (map viewPlace s) ≡ none) (key-only (q .key) k j) n)) in
+        (sym (place-read k s) ∙ subst (λ (j : Key). find K (Option Table) j (map viewPlace s) ≡ none)
+        (key-only (q .key) k j) n)) in
         (rw m, (λ a g. no-way (sym g ∙ ap given m)))
     same-key true false j n r = (r .read, (λ a g. ap (λ (t : List Place). q ∷ t) (r .first a g)))
     same-key false false j n r = (r .read, (λ a g. ap (λ (t : List Place). q ∷ t) (r .first a g)))
 
-    unused : (l : Bool) → isLearned (q .state) ≡ l → isUsed (q .state) ≡ false → TableFirst k s → TableStep k q s false l
+    unused : (l : Bool) → isLearned (q .state) ≡ l → isUsed (q .state) ≡ false → TableFirst k s
+        → TableStep k q s false l
     unused true i f r = no-way (sym (learned-used (q .state) i) ∙ f)
     unused false i f r = (r .read, (λ a g. ap (λ (t : List Place). q ∷ t) (r .first a g)))
 
-    go : (u : Bool) → isUsed (q .state) ≡ u → Lone K (Option Table) (viewPlaceBy u q ∷ map viewPlace s) → (Lone K (Option Table) (map viewPlace s) → TableFirst k s) → TableStep k q s u (isLearned (q .state))
+    go : (u : Bool) → isUsed (q .state) ≡ u → Lone K (Option Table) (viewPlaceBy u q ∷ map viewPlace s)
+        → (Lone K (Option Table) (map viewPlace s) → TableFirst k s) → TableStep k q s u (isLearned (q .state))
     go true f h ih = same-key (isLearned (q .state)) (sameKey (q .key) k) refl (h .0) (ih (h .1))
     go false f h ih = unused (isLearned (q .state)) refl f (ih h)
 
-pub table-read : (k : Key) (s : List Place) → Lone K (Option Table) (map viewPlace s) → join (find K (Option Table) k (map viewPlace s)) ≡ mapped (λ (q : Place). q .table) (pick (isTableOf k) s)
+pub table-read : (k : Key) (s : List Place) → Lone K (Option Table) (map viewPlace s)
+    → join (find K (Option Table) k (map viewPlace s)) ≡ mapped (λ (q : Place). q .table) (pick (isTableOf k) s)
 table-read k s h = table-both k s h .read
 
-pub table-first : (k : Key) (s : List Place) → Lone K (Option Table) (map viewPlace s) → (a : Place) → given (pick (isTableOf k) s) ≡ true → atFirst (isTableOf k) a s ≡ atFirst (isPlaceOf k) a s
+pub table-first : (k : Key) (s : List Place) → Lone K (Option Table) (map viewPlace s) → (a : Place)
+    → given (pick (isTableOf k) s) ≡ true → atFirst (isTableOf k) a s ≡ atFirst (isPlaceOf k) a s
 table-first k s h a g = table-both k s h .first a g

@@ -30,7 +30,8 @@ highest-low n h [] = and-true (leb h n)
     and-true : (b : Bool) → b ≡ (b && true)
     and-true true = refl
     and-true false = refl
-highest-low n h (x ∷ xs) = highest-low n (higher h x) xs ∙ ap (λ (b : Bool). b && low n xs) (higher-low n h x) ∙ assoc (leb h n) (leb x n) (low n xs)
+highest-low n h (x ∷ xs) = highest-low n (higher h x) xs ∙ ap (λ (b : Bool). b && low n xs) (higher-low n h x)
+    ∙ assoc (leb h n) (leb x n) (low n xs)
   where
     assoc : (a b c : Bool) → ((a && b) && c) ≡ (a && (b && c))
     assoc true b c = refl

@@ -15,7 +15,8 @@ pub record Left {A : Type 0} (right : A → List A → Bool) (X : Bool) (xs : Li
   pub size : length xs ≡ n
   pub rest : each right (drop i xs) ≡ X
 
-pub left-starts : {A : Type 0} {right : A → List A → Bool} {xs : List A} {n : ℕ} → length xs ≡ n → Left right (each right xs) xs n 0
+pub left-starts : {A : Type 0} {right : A → List A → Bool} {xs : List A} {n : ℕ} → length xs ≡ n
+    → Left right (each right xs) xs n 0
 left-starts e = record { size = e; rest = refl }
 
 module _ {A : Type 0} {right : A → List A → Bool} {X : Bool} {xs : List A} {n i : ℕ} (s : Left right X xs n i) where

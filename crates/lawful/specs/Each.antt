@@ -17,7 +17,8 @@ use Rattle.parts.specs.Lines.{pageLineOf, placeLineOf}
 
 -- what an open page, and an unused one, must be
 abbrev pub openRight : Page → Bool
-openRight p = leb (p .state) 2 && (lawfulKey (p .key) && (within 1 (p .width) maxWidth && (lawfulTable (p .table .entries) && noStray (p .width)
+openRight p = leb (p .state) 2
+    && (lawfulKey (p .key) && (within 1 (p .width) maxWidth && (lawfulTable (p .table .entries) && noStray (p .width)
     (p .last))))
 
 abbrev pub unusedRight : Page → Bool
@@ -37,7 +38,8 @@ pageKnown places l later = eqb (l .state) 0 || (not (hasPage later (l .key)) && 
 
 -- a used place is alone under its key; a reserved one has its page
 abbrev pub placeKnown : List PageLine → PlaceLine → List PlaceLine → Bool
-placeKnown pages l later = (eqb (l .state) 0 || not (hasPlace later (l .key))) && (not (eqb (l .state) 1) || hasPage pages (l .key))
+placeKnown pages l later = (eqb (l .state) 0 || not (hasPlace later (l .key)))
+    && (not (eqb (l .state) 1) || hasPage pages (l .key))
 
 abbrev pub pageRight : List PlaceLine → Page → List Page → Bool
 pageRight places p later = lawfulPage p && pageKnown places (pageLineOf p) (map pageLineOf later)

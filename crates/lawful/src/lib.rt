@@ -1,4 +1,5 @@
-// Whether a desk is lawful. Every byte of its arrays is looked at, with no early exit, so that the loop is made of vector instructions.
+// Whether a desk is lawful. Every byte of its arrays is looked at, with no early exit, so that the loop is made of
+// vector instructions.
 ghost use mathlib.Core.Path.{_≡_};
 ghost use Prim.Native.Nat.{_+_, _*_, _≤_, _<_};
 ghost use lib.ListN.{length, getD, drop};
@@ -8,7 +9,8 @@ ghost use Rattle.parts.specs.Lines.{noPageLine, noPlaceLine};
 ghost use Rattle.desk.specs.Lawful.{within, lawfulKey, noStray, lawfulPage, lawfulPlace, lawful};
 ghost use Rattle.lawful.specs.Highest.{higher, highestFrom, low, topEntry};
 ghost use Rattle.lawful.specs.Loops.{each};
-ghost use Rattle.lawful.specs.Each.{openRight, unusedRight, pageKnown, placeKnown, pageRight, placeRight, hasPage, hasPlace};
+ghost use Rattle.lawful.specs.Each.{openRight, unusedRight, pageKnown, placeKnown, pageRight, placeRight};
+ghost use Rattle.lawful.specs.Each.{hasPage, hasPlace};
 use desk::Key;
 use limits::CONTEXTS;
 use limits::MAX_KEY;
@@ -170,7 +172,8 @@ fn pages_right(
     rows: &[[u8; ROW]; PAGES],
 ) -> bool
     requires { ⌜ (length (now working) ≡ maxPages) × (length (now rows) ≡ maxPages) ⌝ }
-    ensures { λ r. ⌜ (r ≡ each (pageRight places) (pagesOf pages (now (working .entry)) (now (rows .entry)))) × (length pages ≡ maxPages) ⌝ }
+    ensures { λ r. ⌜ (r ≡ each (pageRight places) (pagesOf pages (now (working .entry)) (now (rows .entry))))
+        × (length pages ≡ maxPages) ⌝ }
 {
     let mut i: usize = 0;
     while i < PAGES {
@@ -190,7 +193,8 @@ fn places_right(
     learned: &[[u8; CONTEXTS]; PLACES],
 ) -> bool
     requires { ⌜ length (now learned) ≡ maxPlaces ⌝ }
-    ensures { λ r. ⌜ (r ≡ each (placeRight pages) (placesOf places (now (learned .entry)))) × (length places ≡ maxPlaces) ⌝ }
+    ensures { λ r. ⌜ (r ≡ each (placeRight pages) (placesOf places (now (learned .entry))))
+        × (length places ≡ maxPlaces) ⌝ }
 {
     let mut i: usize = 0;
     while i < PLACES {
@@ -211,7 +215,8 @@ pub fn lawful_desk(
     learned: &[[u8; CONTEXTS]; PLACES],
 ) -> bool
     requires { ⌜ Sized (now working) (now rows) (now learned) ⌝ }
-    ensures { λ r. ⌜ (r ≡ lawful (deskOf (partsOf book (now (working .entry)) (now (rows .entry)) (now (learned .entry))))) × Whole
+    ensures { λ r. ⌜
+        (r ≡ lawful (deskOf (partsOf book (now (working .entry)) (now (rows .entry)) (now (learned .entry))))) × Whole
         (partsOf book (now (working .entry)) (now (rows .entry)) (now (learned .entry))) ⌝ }
 {
     let pages = book.pages;

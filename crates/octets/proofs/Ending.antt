@@ -45,13 +45,43 @@ rest-last w r =
 
 -- n zeros at once
 shifted : (n : ℕ) (w : Registers) → pads n w
-    ≡ record { interval = record { low = w .interval .low * 2 ^ n; width = w .interval .width; count = w .interval .count }; until = w .until - n; held = w .held; settled = w .settled }
+    ≡ record {
+      interval = record {
+        low = w .interval .low * 2 ^ n;
+        width = w .interval .width;
+        count =
+            w .interval .count;
+      };
+      until = w .until - n;
+      held = w .held;
+      settled = w .settled;
+    }
 unfolding pads
 shifted zero w =
-    λ i. record { interval = record { low = sym (mul-one (w .interval .low)) i; width = w .interval .width; count = w .interval .count }; until = sym (sub-zero (w .until)) i; held = w .held; settled = w .settled }
+    λ i. record {
+      interval = record {
+        low = sym (mul-one (w .interval .low)) i;
+        width = w .interval .width;
+        count =
+            w .interval .count;
+      };
+      until = sym (sub-zero (w .until)) i;
+      held = w .held;
+      settled = w .settled;
+    }
 shifted (suc n) w =
     shifted n (pad w)
-    ∙ (λ i. record { interval = record { low = num (w .interval .low) i; width = w .interval .width; count = w .interval .count }; until = down (w .until) i; held = w .held; settled = w .settled })
+    ∙ (λ i. record {
+      interval = record {
+        low = num (w .interval .low) i;
+        width = w .interval .width;
+        count =
+            w .interval .count;
+      };
+      until = down (w .until) i;
+      held = w .held;
+      settled = w .settled;
+    })
   where
     num : (x : ℕ) → 2 * x * 2 ^ n ≡ x * 2 ^ suc n
     num x = let e : x * 2 ^ suc n ≡ x * (2 * 2 ^ n) = ap (λ (y : ℕ). x * y) (pow-succ' 2 n) in omega arith
@@ -61,7 +91,13 @@ shifted (suc n) w =
 
 -- ---- the loop. The interval's width and count stay; n bytes stand in xs, and r bits are in no byte
 abbrev pub stays : Interval → ℕ → ℕ → ℕ → Registers
-stays i low until held = record { interval = record { low = low; width = i .width; count = i .count }; until = until; held = held; settled = [] }
+stays i low until held = record {
+  interval = record { low = low; width = i .width; count = i .count };
+  until =
+      until;
+  held = held;
+  settled = [];
+}
 
 pub record Ending (i : Interval) (all xs : List ℕ) (low until held r n : ℕ) : Type 0 where
   pub k : ℕ
@@ -71,7 +107,8 @@ pub record Ending (i : Interval) (all xs : List ℕ) (low until held r n : ℕ) 
   pub size : length xs ≡ 5
   pub same : take n xs ++ bytes (cover k r (stays i low until held)) ≡ all
 
-pub ending-start : (i : Interval) (xs : List ℕ) (low until held r : ℕ) → length xs ≡ 5 → Rest (stays i low until held) → r ≡ 24 - until
+pub ending-start : (i : Interval) (xs : List ℕ) (low until held r : ℕ) → length xs ≡ 5 → Rest (stays i low until held)
+    → r ≡ 24 - until
     → Ending i (bytes (finish (stays i low until held))) xs low until held r 0
 unfolding finish
 ending-start i xs low until held r l q e =
@@ -88,7 +125,8 @@ ending-start i xs low until held r l q e =
 pub ending-low : (i : Interval) (low until held : ℕ) → Rest (stays i low until held) → low * 2 ^ until < 33554432
 ending-low i low until held r =
     let f : Filled (pads until (stays i low until held)) = filled until (stays i low until held) (r .fit) refl in
-    let e : pads until (stays i low until held) .interval .low ≡ low * 2 ^ until = ap (λ (w : Registers). w .interval .low) (shifted until (stays i low until held)) in
+    let e : pads until (stays i low until held) .interval .low ≡ low * 2 ^ until =
+    ap (λ (w : Registers). w .interval .low) (shifted until (stays i low until held)) in
     omega (arith, f .fit .under, ap unit (f .due) ∙ unit-zero)
 
 cover-some : (k r : ℕ) (w : Registers) → r ≢ 0 → cover (suc k) r w ≡ cover k (r - lastByte w .until) (lastByte w)
@@ -109,17 +147,35 @@ module _ (i : Interval) (low until held : ℕ) (v : Byte) (o : Out held (low * 2
   unfolding byte
   last-byte =
       ap byte (shifted until (stays i low until held))
-      ∙ (λ t. record { interval = record { low = lows t; width = i .width; count = i .count }; until = sym (o .bits′) t; held = sym (o .held) t; settled = sym (o .byte) t ∷ [] })
+      ∙ (λ t. record {
+        interval = record { low = lows t; width = i .width; count = i .count };
+        until =
+            sym (o .bits′) t;
+        held = sym (o .held) t;
+        settled = sym (o .byte) t ∷ [];
+      })
     where
       lows : left held (low * 2 ^ until) % 2 ^ (24 - bits (carried held (low * 2 ^ until))) ≡ v .low
       lows = sym (o .low ∙ mul-one _)
 
   rest-next : Rest (stays i low until held) → Rest (stays i (v .low) (v .bits) (v .held))
   rest-next r =
-      let k : Rest (behind (v .settled ∷ []) (stays i (v .low) (v .bits) (v .held))) = subst Rest last-byte (rest-last (stays i low until held) r) in
-      record { fit = record { few = k .fit .few; octet = k .fit .octet; some = k .fit .some; narrow = k .fit .narrow; under = k .fit .under }; wait = k .wait }
+      let k : Rest (behind (v .settled ∷ []) (stays i (v .low) (v .bits) (v .held))) = subst Rest last-byte
+      (rest-last (stays i low until held) r) in
+      record {
+        fit = record {
+          few = k .fit .few;
+          octet = k .fit .octet;
+          some = k .fit .some;
+          narrow =
+              k .fit .narrow;
+          under = k .fit .under;
+        };
+        wait = k .wait;
+      }
 
-  next-bytes : (k r : ℕ) → r ≢ 0 → bytes (cover (suc k) r (stays i low until held)) ≡ v .settled ∷ bytes (cover k (r - v .bits) (stays i (v .low) (v .bits) (v .held)))
+  next-bytes : (k r : ℕ) → r ≢ 0 → bytes (cover (suc k) r (stays i low until held)) ≡ v .settled
+      ∷ bytes (cover k (r - v .bits) (stays i (v .low) (v .bits) (v .held)))
   next-bytes k r h =
       ap bytes (cover-some k r (stays i low until held) h ∙ ap (λ (w : Registers). cover k (r - w .until) w) last-byte
       ∙ behind-cover k (r - v .bits) (v .settled ∷ []) (stays i (v .low) (v .bits) (v .held)))
@@ -128,7 +184,8 @@ module _ (i : Interval) (low until held : ℕ) (v : Byte) (o : Out held (low * 2
   seven-next : 7 ≤ v .bits
   seven-next = rw (o .bits′) (bits-few (carried held (low * 2 ^ until)) .0)
 
-  again : (all xs : List ℕ) (r n k : ℕ) → k + n ≡ 4 → r ≤ 7 * k → Rest (stays i low until held) → length xs ≡ 5 → take n xs ++ bytes (cover k r (stays i low until held)) ≡ all
+  again : (all xs : List ℕ) (r n k : ℕ) → k + n ≡ 4 → r ≤ 7 * k → Rest (stays i low until held) → length xs ≡ 5
+      → take n xs ++ bytes (cover k r (stays i low until held)) ≡ all
       → r ≢ 0 → Ending i all (set xs n (v .settled)) (v .low) (v .bits) (v .held) (r - v .bits) (suc n)
   again all xs r n zero f w q l s h = absurd (h (omega arith))
   again all xs r n (suc k) f w q l s h =
@@ -139,16 +196,21 @@ module _ (i : Interval) (low until held : ℕ) (v : Byte) (o : Out held (low * 2
         rest = rest-next q;
         size = length-set xs n (v .settled) ∙ l;
         same =
-            ap (λ (ys : List ℕ). ys ++ bytes (cover k (r - v .bits) (stays i (v .low) (v .bits) (v .held)))) (take-suc-set xs n (v .settled) (omega arith))
-            ∙ append-assoc (take n xs) (v .settled ∷ []) (bytes (cover k (r - v .bits) (stays i (v .low) (v .bits) (v .held))))
+            ap (λ (ys : List ℕ). ys ++ bytes (cover k (r - v .bits) (stays i (v .low) (v .bits) (v .held))))
+            (take-suc-set xs n (v .settled) (omega arith))
+            ∙ append-assoc (take n xs) (v .settled ∷ [])
+            (bytes (cover k (r - v .bits) (stays i (v .low) (v .bits) (v .held))))
             ∙ ap (λ (ys : List ℕ). take n xs ++ ys) (sym (next-bytes k r h)) ∙ s;
       }
 
-  pub ending-again : (all xs : List ℕ) (r n : ℕ) → Ending i all xs low until held r n → r ≢ 0 → Ending i all (set xs n (v .settled)) (v .low) (v .bits) (v .held) (r - v .bits) (suc n)
+  pub ending-again : (all xs : List ℕ) (r n : ℕ) → Ending i all xs low until held r n → r ≢ 0
+      → Ending i all (set xs n (v .settled)) (v .low) (v .bits) (v .held) (r - v .bits) (suc n)
   ending-again all xs r n e h = again all xs r n (e .k) (e .fuel) (e .few) (e .rest) (e .size) (e .same) h
 
 -- all bits are covered: the held byte is the last
-pub ending-end : (i : Interval) (all xs : List ℕ) (low until held n : ℕ) → Ending i all xs low until held 0 n → take (suc n) (set xs n held) ≡ all
+pub ending-end : (i : Interval) (all xs : List ℕ) (low until held n : ℕ) → Ending i all xs low until held 0 n
+    → take (suc n) (set xs n held) ≡ all
 unfolding bytes
 ending-end i all xs low until held n e =
-    take-suc-set xs n held (omega (arith, e .size, e .fuel)) ∙ ap (λ (w : Registers). take n xs ++ (w .settled ++ (w .held ∷ []))) (sym (cover-none (e .k) (stays i low until held))) ∙ e .same
+    take-suc-set xs n held (omega (arith, e .size, e .fuel)) ∙ ap (λ (w : Registers). take n xs
+    ++ (w .settled ++ (w .held ∷ []))) (sym (cover-none (e .k) (stays i low until held))) ∙ e .same

@@ -13,7 +13,8 @@ use Rattle.octets.specs.Unit.{unit}
 use Rattle.octets.proofs.Unit.{unit-scale, unit-pred, unit-zero, unit-eight, unit-seven}
 use Rattle.interval.specs.declared.Interval.{Interval}
 use Rattle.interval.specs.Interval.{Decision, upperPart, lowerPart}
-use Rattle.octets.specs.Octets.{Registers, start, bits, carried, left, byte, due, double, shifts, at, part, pel, run}
+use Rattle.octets.specs.Octets.{Registers, start, bits, carried, left, byte, due, double, shifts, at, part, pel}
+use Rattle.octets.specs.Octets.{run}
 use Rattle.octets.specs.Fit.{Fit, Rest, Ready}
 
 -- the two parts, with the bytes as they are; what holds of both holds of a pel's
@@ -23,8 +24,10 @@ upper q w = at (upperPart q (w .interval)) w
 abbrev pub lower : ℕ → Registers → Registers
 lower q w = at (lowerPart q (w .interval)) w
 
-pub by-part : (P : Registers → Type 0) (d : Decision) (w : Registers) → (T (d .expected) → P (upper (d .q) w)) → (T (not (d .expected)) → P (lower (d .q) w)) → P (part d w)
-by-part P d w f g = by-cond (λ (i : Interval). P (at i w)) (d .expected) (upperPart (d .q) (w .interval)) (lowerPart (d .q) (w .interval)) f g
+pub by-part : (P : Registers → Type 0) (d : Decision) (w : Registers) → (T (d .expected) → P (upper (d .q) w))
+    → (T (not (d .expected)) → P (lower (d .q) w)) → P (part d w)
+by-part P d w f g = by-cond (λ (i : Interval). P (at i w)) (d .expected) (upperPart (d .q) (w .interval))
+    (lowerPart (d .q) (w .interval)) f g
 
 -- a byte made of h and c: b is settled, h' and c' stand in the registers, u is the unit then
 pub record Made (h c a b u h' c' : ℕ) : Type 0 where
@@ -124,31 +127,38 @@ made-7 h c a b r h2 h3 h4 h5 h6 h7 = record {
 
 -- the byte that is due at w, as numbers
 abbrev pub Byte : Registers → Type 0
-Byte w = Made (w .held) (w .interval .low) (w .interval .width) (carried (w .held) (w .interval .low)) (unit (byte w .until)) (byte w .held) (byte w .interval .low)
+Byte w = Made (w .held) (w .interval .low) (w .interval .width) (carried (w .held) (w .interval .low))
+    (unit (byte w .until)) (byte w .held) (byte w .interval .low)
 
 module _ (w : Registers) (f : Fit w) (z : w .until ≡ 0) where
   below : 8 * (w .interval .low + w .interval .width) ≤ 9 * 16777216
   below = omega (arith, f .under, ap unit z ∙ unit-zero)
 
   at-unit : (u : ℕ) → unit (bits (carried (w .held) (w .interval .low))) ≡ u
-      → Made (w .held) (w .interval .low) (w .interval .width) (carried (w .held) (w .interval .low)) u (left (w .held) (w .interval .low) / u) (left (w .held) (w .interval .low) % u) → Byte w
+      → Made (w .held) (w .interval .low) (w .interval .width) (carried (w .held) (w .interval .low)) u
+      (left (w .held) (w .interval .low) / u) (left (w .held) (w .interval .low) % u) → Byte w
   unfolding byte unit
   at-unit u e m =
-      subst (λ (x : ℕ). Made (w .held) (w .interval .low) (w .interval .width) (carried (w .held) (w .interval .low)) x (left (w .held) (w .interval .low) / x) (left (w .held) (w .interval .low) % x))
+      subst (λ (x : ℕ). Made (w .held) (w .interval .low) (w .interval .width) (carried (w .held) (w .interval .low)) x
+      (left (w .held) (w .interval .low) / x) (left (w .held) (w .interval .low) % x))
       (sym e) m
 
-  plain : w .held ≢ 255 → (carried (w .held) (w .interval .low) ≡ 255) ⊎ (carried (w .held) (w .interval .low) ≢ 255) → Byte w
+  plain : w .held ≢ 255 → (carried (w .held) (w .interval .low) ≡ 255) ⊎ (carried (w .held) (w .interval .low) ≢ 255)
+      → Byte w
   plain n (inl e) =
       at-unit 131072 (ap unit (bits-ff _ e) ∙ unit-seven)
-      (made-7c (w .held) (w .interval .low) (w .interval .width) _ _ (f .octet) (f .some) (f .narrow) below n (carried-else _ _ n) (left-else _ _ n) e)
+      (made-7c (w .held) (w .interval .low) (w .interval .width) _ _ (f .octet) (f .some) (f .narrow) below n
+      (carried-else _ _ n) (left-else _ _ n) e)
   plain n (inr e) =
       at-unit 65536 (ap unit (bits-else _ e) ∙ unit-eight)
-      (made-8 (w .held) (w .interval .low) (w .interval .width) _ _ (f .octet) (f .some) (f .narrow) below n (carried-else _ _ n) (left-else _ _ n) e)
+      (made-8 (w .held) (w .interval .low) (w .interval .width) _ _ (f .octet) (f .some) (f .narrow) below n
+      (carried-else _ _ n) (left-else _ _ n) e)
 
   pick : (w .held ≡ 255) ⊎ (w .held ≢ 255) → Byte w
   pick (inl e) =
       at-unit 131072 (ap unit (bits-ff _ (carried-ff _ _ e ∙ e)) ∙ unit-seven)
-      (made-7 (w .held) (w .interval .low) (w .interval .width) _ _ (f .some) (f .narrow) below e (carried-ff _ _ e) (left-ff _ _ e))
+      (made-7 (w .held) (w .interval .low) (w .interval .width) _ _ (f .some) (f .narrow) below e (carried-ff _ _ e)
+      (left-ff _ _ e))
   pick (inr n) = plain n (same? (carried (w .held) (w .interval .low)) 255)
 
   pub made : Byte w
@@ -160,7 +170,14 @@ pub fit-byte : (w : Registers) → Fit w → w .until ≡ 0 → Fit (byte w)
 unfolding byte
 fit-byte w f z =
     let m : Byte w = made w f z in
-    record { few = omega (arith, bits-few (carried (w .held) (w .interval .low))); octet = m .octet; some = f .some; narrow = f .narrow; under = m .under }
+    record {
+      few = omega (arith, bits-few (carried (w .held) (w .interval .low)));
+      octet = m .octet;
+      some =
+          f .some;
+      narrow = f .narrow;
+      under = m .under;
+    }
 
 pub rest-due : (w : Registers) → Fit w → Rest (due w)
 unfolding due
@@ -181,11 +198,13 @@ fit-double w r h =
 
 pub due-width : (w : Registers) → due w .interval .width ≡ w .interval .width
 unfolding due byte
-due-width w = by-cond (λ (v : Registers). v .interval .width ≡ w .interval .width) (eqb (w .until) 0) (byte w) w (λ t. refl) (λ t. refl)
+due-width w = by-cond (λ (v : Registers). v .interval .width ≡ w .interval .width) (eqb (w .until) 0) (byte w) w
+    (λ t. refl) (λ t. refl)
 
 pub due-count : (w : Registers) → due w .interval .count ≡ w .interval .count
 unfolding due byte
-due-count w = by-cond (λ (v : Registers). v .interval .count ≡ w .interval .count) (eqb (w .until) 0) (byte w) w (λ t. refl) (λ t. refl)
+due-count w = by-cond (λ (v : Registers). v .interval .count ≡ w .interval .count) (eqb (w .until) 0) (byte w) w
+    (λ t. refl) (λ t. refl)
 
 pub rest-shift : (w : Registers) → Rest w → T (ltb (w .interval .width) 4096) → Rest (due (double w))
 rest-shift w r t = rest-due (double w) (fit-double w r (ltb→lt (w .interval .width) 4096 t))
@@ -195,7 +214,8 @@ unfolding shifts
 ready-shifts zero w r h = record { rest = r; wide = omega (arith, h) }
 ready-shifts (suc n) w r h =
     by-cond Ready (ltb (w .interval .width) 4096) (shifts n (due (double w))) w
-    (λ t. ready-shifts n (due (double w)) (rest-shift w r t) (enough n (w .interval .width) (due (double w) .interval .width) (due-width (double w)) h))
+    (λ t. ready-shifts n (due (double w)) (rest-shift w r t)
+    (enough n (w .interval .width) (due (double w) .interval .width) (due-width (double w)) h))
     (λ t. record { rest = r; wide = nltb→le (w .interval .width) 4096 t })
   where
     enough : (n a b : ℕ) → b ≡ 2 * a → 4096 ≤ a * 2 ^ suc n → 4096 ≤ b * 2 ^ n
@@ -259,7 +279,14 @@ unfolding unit
 ready-start =
     record {
       rest = record {
-        fit = record { few = omega arith; octet = omega arith; some = omega arith; narrow = omega arith; under = omega arith };
+        fit = record {
+          few = omega arith;
+          octet = omega arith;
+          some = omega arith;
+          narrow = omega arith;
+          under =
+              omega arith;
+        };
         wait = omega arith;
       };
       wide = omega arith;

@@ -9,7 +9,8 @@ use lib.Dec.{ltb, eqb}
 use Rattle.ground.proofs.Tests.{by-cond, by-cond₂, if-eq, if-ne}
 use Rattle.interval.specs.Interval.{Decision, doublings}
 use Rattle.interval.proofs.Growing.{jumped, jumped-none, jumped-more}
-use Rattle.octets.specs.Octets.{Registers, carried, byte, due, double, shifts, part, pel, pad, pads, lastByte, cover, finish}
+use Rattle.octets.specs.Octets.{Registers, carried, byte, due, double, shifts, part, pel, pad, pads, lastByte}
+use Rattle.octets.specs.Octets.{cover, finish}
 use Rattle.octets.proofs.Fit.{due-width, due-count, by-part}
 use Rattle.octets.specs.Loops.{steps}
 
@@ -20,18 +21,31 @@ behind xs w = record { interval = w .interval; until = w .until; held = w .held;
 pub behind-byte : (xs : List ℕ) (w : Registers) → byte (behind xs w) ≡ behind xs (byte w)
 unfolding byte
 behind-byte xs w =
-    ap (λ (l : List ℕ). record { interval = record { low = byte w .interval .low; width = w .interval .width; count = w .interval .count }; until = byte w .until; held = byte w .held; settled = l }) (append-assoc xs (w .settled) (carried (w .held) (w .interval .low) ∷ []))
+    ap (λ (l : List ℕ). record {
+      interval = record {
+        low = byte w .interval .low;
+        width = w .interval .width;
+        count =
+            w .interval .count;
+      };
+      until = byte w .until;
+      held = byte w .held;
+      settled =
+          l;
+    }) (append-assoc xs (w .settled) (carried (w .held) (w .interval .low) ∷ []))
 
 pub behind-due : (xs : List ℕ) (w : Registers) → due (behind xs w) ≡ behind xs (due w)
 unfolding due
 behind-due xs w =
-    by-cond₂ (λ (v u : Registers). v ≡ behind xs u) (eqb (w .until) 0) (byte (behind xs w)) (behind xs w) (byte w) w (λ t. behind-byte xs w) (λ t. refl)
+    by-cond₂ (λ (v u : Registers). v ≡ behind xs u) (eqb (w .until) 0) (byte (behind xs w)) (behind xs w) (byte w) w
+    (λ t. behind-byte xs w) (λ t. refl)
 
 pub behind-shifts : (n : ℕ) (xs : List ℕ) (w : Registers) → shifts n (behind xs w) ≡ behind xs (shifts n w)
 unfolding shifts
 behind-shifts zero xs w = refl
 behind-shifts (suc n) xs w =
-    by-cond₂ (λ (v u : Registers). v ≡ behind xs u) (ltb (w .interval .width) 4096) (shifts n (due (double (behind xs w)))) (behind xs w) (shifts n (due (double w))) w
+    by-cond₂ (λ (v u : Registers). v ≡ behind xs u) (ltb (w .interval .width) 4096)
+    (shifts n (due (double (behind xs w)))) (behind xs w) (shifts n (due (double w))) w
     (λ t. ap (shifts n) (behind-due xs (double w)) ∙ behind-shifts n xs (due (double w))) (λ t. refl)
 
 pub behind-pel : (d : Decision) (xs : List ℕ) (w : Registers) → pel d (behind xs w) ≡ behind xs (pel d w)
@@ -49,9 +63,12 @@ pub behind-cover : (n r : ℕ) (xs : List ℕ) (w : Registers) → cover n r (be
 unfolding cover
 behind-cover zero r xs w = refl
 behind-cover (suc n) r xs w =
-    by-cond₂ (λ (v u : Registers). v ≡ behind xs u) (eqb r 0) (behind xs w) (cover n (r - lastByte (behind xs w) .until) (lastByte (behind xs w))) w (cover n (r - lastByte w .until) (lastByte w))
+    by-cond₂ (λ (v u : Registers). v ≡ behind xs u) (eqb r 0) (behind xs w)
+    (cover n (r - lastByte (behind xs w) .until) (lastByte (behind xs w))) w (cover n (r - lastByte w .until)
+    (lastByte w))
     (λ t. refl)
-    (λ t. ap (λ (v : Registers). cover n (r - v .until) v) (behind-last xs w) ∙ behind-cover n (r - lastByte w .until) xs (lastByte w))
+    (λ t. ap (λ (v : Registers). cover n (r - v .until) v) (behind-last xs w) ∙ behind-cover n (r - lastByte w .until)
+    xs (lastByte w))
 
 pub behind-finish : (xs : List ℕ) (w : Registers) → finish (behind xs w) ≡ behind xs (finish w)
 unfolding finish
@@ -62,18 +79,32 @@ pub shifts-steps : (n : ℕ) (w : Registers) → shifts n w ≡ steps (doublings
 unfolding shifts doublings steps
 shifts-steps zero w = refl
 shifts-steps (suc n) w =
-    by-cond₂ (λ (v : Registers) (k : ℕ). v ≡ steps k w) (ltb (w .interval .width) 4096) (shifts n (due (double w))) w (suc (doublings n (2 * w .interval .width))) 0
-    (λ t. shifts-steps n (due (double w)) ∙ ap (λ (a : ℕ). steps (doublings n a) (due (double w))) (due-width (double w))) (λ t. refl)
+    by-cond₂ (λ (v : Registers) (k : ℕ). v ≡ steps k w) (ltb (w .interval .width) 4096) (shifts n (due (double w))) w
+    (suc (doublings n (2 * w .interval .width))) 0
+    (λ t. shifts-steps n (due (double w)) ∙ ap (λ (a : ℕ). steps (doublings n a) (due (double w)))
+    (due-width (double w))) (λ t. refl)
 
 -- k at once
 abbrev pub jump : ℕ → Registers → Registers
 jump k w = record { interval = jumped k (w .interval); until = w .until - k; held = w .held; settled = w .settled }
 
 jump-zero : (w : Registers) → jump 0 w ≡ w
-jump-zero w = λ i. record { interval = sym (jumped-none (w .interval)) i; until = sub-zero (w .until) i; held = w .held; settled = w .settled }
+jump-zero w = λ i. record {
+  interval = sym (jumped-none (w .interval)) i;
+  until = sub-zero (w .until) i;
+  held =
+      w .held;
+  settled = w .settled;
+}
 
 jump-double : (k : ℕ) (w : Registers) → jump k (double w) ≡ jump (suc k) w
-jump-double k w = λ i. record { interval = jumped-more k (w .interval) i; until = down (w .until) i; held = w .held; settled = w .settled }
+jump-double k w = λ i. record {
+  interval = jumped-more k (w .interval) i;
+  until = down (w .until) i;
+  held =
+      w .held;
+  settled = w .settled;
+}
   where
     down : (t : ℕ) → t - 1 - k ≡ t - suc k
     down t = omega arith
@@ -100,7 +131,8 @@ steps-few (suc k) w h =
 pub steps-byte : (j k : ℕ) (w : Registers) → w .until ≡ suc j → steps (suc j + k) w ≡ steps k (byte (jump (suc j) w))
 unfolding steps
 steps-byte zero k w e =
-    ap (λ (n : ℕ). steps n w) (suc-add 0 k ∙ ap suc (zero-add k)) ∙ ap (steps k) (due-now (double w) (omega arith) ∙ ap byte (sym (jump-zero (double w)) ∙ jump-double 0 w))
+    ap (λ (n : ℕ). steps n w) (suc-add 0 k ∙ ap suc (zero-add k)) ∙ ap (steps k) (due-now (double w) (omega arith)
+    ∙ ap byte (sym (jump-zero (double w)) ∙ jump-double 0 w))
 steps-byte (suc j) k w e =
     ap (λ (n : ℕ). steps n w) (suc-add (suc j) k) ∙ ap (steps (suc j + k)) (due-not (double w) (omega arith))
     ∙ steps-byte j k (double w) (omega arith) ∙ ap (λ (v : Registers). steps k (byte v)) (jump-double (suc j) w)
@@ -115,8 +147,10 @@ shifts-count : (n : ℕ) (w : Registers) → shifts n w .interval .count ≤ w .
 unfolding shifts
 shifts-count zero w = omega arith
 shifts-count (suc n) w =
-    by-cond (λ (v : Registers). v .interval .count ≤ w .interval .count + suc n) (ltb (w .interval .width) 4096) (shifts n (due (double w))) w
+    by-cond (λ (v : Registers). v .interval .count ≤ w .interval .count + suc n) (ltb (w .interval .width) 4096)
+    (shifts n (due (double w))) w
     (λ t. omega (arith, shifts-count n (due (double w)), due-count (double w))) (λ t. omega arith)
 
 pub pel-count : (d : Decision) (w : Registers) → pel d w .interval .count ≤ w .interval .count + 12
-pel-count d w = by-part (λ (v : Registers). shifts 12 v .interval .count ≤ w .interval .count + 12) d w (λ t. shifts-count 12 _) (λ t. shifts-count 12 _)
+pel-count d w = by-part (λ (v : Registers). shifts 12 v .interval .count ≤ w .interval .count + 12) d w
+    (λ t. shifts-count 12 _) (λ t. shifts-count 12 _)

@@ -33,7 +33,8 @@ carried h c = cond (eqb h 0xff) h (h + c / 2 ^ 24)
 unfoldable pub left : ℕ → ℕ → ℕ
 left h c = cond (eqb h 0xff) c (c % 2 ^ 24)
 
--- A byte goes out: the held one is settled with its carry, and the next 8 bits are held, or after FF the stuff bit and the next 7.
+-- A byte goes out: the held one is settled with its carry, and the next 8 bits are held, or after FF the stuff bit and
+-- the next 7.
 unfoldable pub byte : Registers → Registers
 byte w =
     let b : ℕ = carried (w .held) (w .interval .low) in

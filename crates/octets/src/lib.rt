@@ -19,7 +19,8 @@ pub struct Coder {
     pub held: u64,
 }
 
-// A byte that went out: the byte settled, the byte now held, what is left of the lower end, and the bits that the held byte brought.
+// A byte that went out: the byte settled, the byte now held, what is left of the lower end, and the bits that the held
+// byte brought.
 pub struct Byte {
     pub settled: u8,
     pub held: u64,
@@ -88,7 +89,12 @@ pub fn byte_out(low: u64, held: u64, scale: u64) -> Byte
 // The registers after a byte and i shifts more; `next` has the width and the count then.
 fn after_byte(next: Interval, b: Byte, i: u64) -> Coder
     requires { ⌜ i ≤ b .bits ⌝ }
-    ensures { λ r. ⌜ r ≡ record { interval = record { low = b .low; width = next .width; count = next .count }; until = b .bits - i; held = b .held } ⌝ }
+    ensures { λ r. ⌜ r ≡ record {
+      interval = record { low = b .low; width = next .width; count = next .count };
+      until =
+          b .bits - i;
+      held = b .held;
+    } ⌝ }
 {
     let interval = Interval {
         low: b.low,
@@ -105,7 +111,9 @@ fn after_byte(next: Interval, b: Byte, i: u64) -> Coder
 // The bytes of a pel whose last byte goes out before its last j shifts: `next` is the interval after all k of them.
 pub fn settle(next: Interval, held: u64, j: u64, k: u64) -> Put
     requires { ⌜ (held ≤ 255) × (j ≤ 11) × (next .low < 33554432 * 2 ^ j) ⌝ }
-    ensures { λ r. ⌜ (r .shifts ≡ k) × (r .settled ≤ 2) × ((c a s : ℕ) → next .low ≡ c * 2 ^ j → next .width ≡ a * 2 ^ j → next .count ≡ s + j → steps j (byte (there [] c a s held)) ≡ lift (r .coder) (settledOf r)) ⌝ }
+    ensures { λ r. ⌜ (r .shifts ≡ k) × (r .settled ≤ 2) × ((c a s : ℕ) → next .low ≡ c * 2 ^ j
+        → next .width ≡ a * 2 ^ j → next .count ≡ s + j → steps j (byte (there [] c a s held)) ≡ lift (r .coder)
+        (settledOf r)) ⌝ }
 {
     let b = byte_out(next.low, held, power(j));
     if j < b.bits {
@@ -176,7 +184,8 @@ impl Coder {
     // One pel.
     pub fn pel(self, q: u64, expected: bool) -> Put
         requires { ⌜ Ready (lift self []) × (1 ≤ q) × (q ≤ 0xAC1) × (self .interval .count < maxShifts) ⌝ }
-        ensures { λ r. ⌜ (pel (decision q expected) (lift self []) ≡ lift (r .coder) (settledOf r)) × (r .settled ≤ 2) × (r .shifts ≡ doublings 12 (partOf (decision q expected) (self .interval) .width)) ⌝ }
+        ensures { λ r. ⌜ (pel (decision q expected) (lift self []) ≡ lift (r .coder) (settledOf r)) × (r .settled ≤ 2)
+            × (r .shifts ≡ doublings 12 (partOf (decision q expected) (self .interval) .width)) ⌝ }
     {
         let interval = self.interval;
         let until = self.until;
@@ -198,7 +207,8 @@ impl Coder {
     // The end: zeros shifted in, and bytes made, until they cover every bit of the lower end.
     pub fn finish(self) -> Ended
         requires { ⌜ Rest (lift self []) ⌝ }
-        ensures { λ r. ⌜ (take (r .count) (r .bytes) ≡ bytes (finish (lift self []))) × (1 ≤ r .count) × (r .count ≤ 5) ⌝ }
+        ensures { λ r. ⌜ (take (r .count) (r .bytes) ≡ bytes (finish (lift self []))) × (1 ≤ r .count)
+            × (r .count ≤ 5) ⌝ }
     {
         let interval = self.interval;
         let mut low = interval.low;

@@ -43,7 +43,8 @@ pub fn open<'a>(
     ask: Opening,
 ) -> Reply
     requires { ⌜ Sized (now working) (now rows) (now learned) ⌝ }
-    ensures { λ r. ⌜ Serves (partsOf book (now (working .entry)) (now (rows .entry)) (now (learned .entry))) (opens ask) (r .answer)
+    ensures { λ r. ⌜ Serves (partsOf book (now (working .entry)) (now (rows .entry)) (now (learned .entry)))
+        (opens ask) (r .answer)
         (partsOf (r .book) (now (working .exit)) (now (rows .exit)) (now (learned .exit))) [] ⌝ }
 {
     let good = lawful::lawful_desk(book, working, rows, learned);
@@ -81,7 +82,8 @@ fn open_new<'a>(
     i: usize,
 ) -> Reply
     requires { ⌜ (i < maxPages) × Whole (partsOf book (now working) (now rows) (now learned)) ⌝ }
-    ensures { λ r. ⌜ (outcomeOf (r .answer) (partsOf (r .book) (now (working .exit)) (now (rows .exit)) (now (learned .exit))) ≡ openNew (deskOf
+    ensures { λ r. ⌜ (outcomeOf (r .answer) (partsOf (r .book) (now (working .exit)) (now (rows .exit))
+        (now (learned .exit))) ≡ openNew (deskOf
         (partsOf book (now (working .entry)) (now (rows .entry)) (now (learned .entry)))) ask i) × Whole
         (partsOf (r .book) (now (working .exit)) (now (rows .exit)) (now (learned .exit))) ⌝ }
 {

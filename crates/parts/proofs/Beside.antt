@@ -14,7 +14,8 @@ one-less e = omega arith
 
 -- ---- two lists side by side
 module _ {A B C : Type 0} (f : A → B → C) where
-  pub set-beside : (xs : List A) (ys : List B) (i : ℕ) (x : A) (y : B) → beside f (set xs i x) (set ys i y) ≡ set (beside f xs ys) i (f x y)
+  pub set-beside : (xs : List A) (ys : List B) (i : ℕ) (x : A) (y : B) → beside f (set xs i x) (set ys i y) ≡ set
+      (beside f xs ys) i (f x y)
   unfolding beside
   set-beside [] ys i x y = refl
   set-beside (a ∷ xs) [] zero x y = refl
@@ -38,20 +39,24 @@ module _ {A B C : Type 0} (f : A → B → C) where
   length-beside (a ∷ xs) (b ∷ ys) e = ap suc (length-beside xs ys (one-less e))
 
   -- each of them can be read off
-  pub left-beside : (g : C → A) → ((x : A) (y : B) → g (f x y) ≡ x) → (xs : List A) (ys : List B) → length xs ≡ length ys → map g
+  pub left-beside : (g : C → A) → ((x : A) (y : B) → g (f x y) ≡ x) → (xs : List A) (ys : List B)
+      → length xs ≡ length ys → map g
       (beside f xs ys) ≡ xs
   unfolding beside
   left-beside g k [] ys e = refl
   left-beside g k (a ∷ xs) [] e = absurd (omega arith)
-  left-beside g k (a ∷ xs) (b ∷ ys) e = ap₂ (λ (z : A) (zs : List A). z ∷ zs) (k a b) (left-beside g k xs ys (one-less e))
+  left-beside g k (a ∷ xs) (b ∷ ys) e = ap₂ (λ (z : A) (zs : List A). z ∷ zs) (k a b)
+      (left-beside g k xs ys (one-less e))
 
-  pub right-beside : (h : C → B) → ((x : A) (y : B) → h (f x y) ≡ y) → (xs : List A) (ys : List B) → length xs ≡ length ys → map h
+  pub right-beside : (h : C → B) → ((x : A) (y : B) → h (f x y) ≡ y) → (xs : List A) (ys : List B)
+      → length xs ≡ length ys → map h
       (beside f xs ys) ≡ ys
   unfolding beside
   right-beside h k [] [] e = refl
   right-beside h k [] (b ∷ ys) e = absurd (omega arith)
   right-beside h k (a ∷ xs) [] e = absurd (omega arith)
-  right-beside h k (a ∷ xs) (b ∷ ys) e = ap₂ (λ (z : B) (zs : List B). z ∷ zs) (k a b) (right-beside h k xs ys (one-less e))
+  right-beside h k (a ∷ xs) (b ∷ ys) e = ap₂ (λ (z : B) (zs : List B). z ∷ zs) (k a b)
+      (right-beside h k xs ys (one-less e))
 
 pub map-twice : {A B C : Type 0} (g : C → B) (h : B → A) (cs : List C) → map (λ c. h (g c)) cs ≡ map h (map g cs)
 map-twice g h [] = refl

@@ -12,7 +12,8 @@ use Rattle.parts.specs.Parts.{asPage, asPlace, beside, pagesOf, placesOf
 use Rattle.parts.specs.Lines.{noPageLine, noPlaceLine}
 use Rattle.desk.specs.Places.{zeroTable, unusedPage, freePlace, emptyDesk}
 
-beside-replicate : {A B C : Type 0} (f : A → B → C) (n : ℕ) (x : A) (y : B) → beside f (replicate n x) (replicate n y) ≡ replicate n (f x y)
+beside-replicate : {A B C : Type 0} (f : A → B → C) (n : ℕ) (x : A) (y : B) → beside f (replicate n x) (replicate n y)
+    ≡ replicate n (f x y)
 unfolding beside
 beside-replicate f zero x y = refl
 beside-replicate {C = C} f (suc n) x y = ap (λ (zs : List C). f x y ∷ zs) (beside-replicate f n x y)
@@ -49,7 +50,8 @@ joined p last = asPage (p .0) (p .1) last
 pages-empty : (n : ℕ) → pagesOf (replicate n noPageLine) (zeros contexts n) (zeros lastBytes n) ≡ replicate n unusedPage
 unfolding unusedPage zeroTable white
 pages-empty n =
-    ap (λ (ps : List (PageLine × List ℕ)). beside joined ps (zeros lastBytes n)) (beside-replicate paired n noPageLine (noBytes contexts))
+    ap (λ (ps : List (PageLine × List ℕ)). beside joined ps (zeros lastBytes n)) (beside-replicate paired n noPageLine
+    (noBytes contexts))
     ∙ beside-replicate joined n (noPageLine, noBytes contexts) (noBytes lastBytes)
 
 places-empty : (n : ℕ) → placesOf (replicate n noPlaceLine) (zeros contexts n) ≡ replicate n freePlace

@@ -11,7 +11,8 @@ use Rattle.desk.specs.Desk.{Page, Place, Desk}
 use Rattle.parts.specs.Parts.{asPage, asPlace, beside, pagesOf, placesOf, deskOf, Whole}
 use Rattle.desk.specs.Places.{noPage, noPlace, findBy}
 use Rattle.parts.specs.Finding.{pageSought, placeSought}
-use Rattle.parts.proofs.Beside.{set-beside, get-beside, length-beside, left-beside, right-beside, map-twice, find-map}
+use Rattle.parts.proofs.Beside.{set-beside, get-beside, length-beside, left-beside, right-beside, map-twice}
+use Rattle.parts.proofs.Beside.{find-map}
 use Rattle.parts.specs.Lines.{noPageLine, pageLineOf, noPlaceLine, placeLineOf}
 
 abbrev paired : PageLine → List ℕ → PageLine × List ℕ
@@ -30,7 +31,8 @@ module _ (ls : List PageLine) (ts rs : List (List ℕ)) (e : length ls ≡ lengt
   pairs-long : length (beside paired ls ts) ≡ length rs
   pairs-long = length-beside paired ls ts e ∙ f
 
-  pub get-pages : (i : ℕ) → getD (pagesOf ls ts rs) i noPage ≡ asPage (getD ls i noPageLine) (getD ts i []) (getD rs i [])
+  pub get-pages : (i : ℕ) → getD (pagesOf ls ts rs) i noPage ≡ asPage (getD ls i noPageLine) (getD ts i [])
+      (getD rs i [])
   get-pages i =
       get-beside joined (beside paired ls ts) rs i (noPageLine, []) [] pairs-long
       ∙ ap (λ (p : PageLine × List ℕ). joined p (getD rs i [])) (get-beside paired ls ts i noPageLine [] e)
@@ -40,7 +42,8 @@ module _ (ls : List PageLine) (ts rs : List (List ℕ)) (e : length ls ≡ lengt
 
   -- what was joined can be read off again
   pairs-off : map (λ (p : Page). (pageLineOf p, p .table .entries)) (pagesOf ls ts rs) ≡ beside paired ls ts
-  pairs-off = left-beside joined (λ p. (pageLineOf p, p .table .entries)) (λ x y. refl) (beside paired ls ts) rs pairs-long
+  pairs-off = left-beside joined (λ p. (pageLineOf p, p .table .entries)) (λ x y. refl) (beside paired ls ts)
+      rs pairs-long
 
   pub lines-off : map pageLineOf (pagesOf ls ts rs) ≡ ls
   lines-off =
@@ -78,21 +81,25 @@ module _ (p : Parts) (w : Whole p) where
 
   -- a search over the book finds what a search of the desk does
   pub find-pages : (s : Sought)
-      → findBy (λ (q : Page). pageSought s (pageLineOf q)) (deskOf p .pages) 0 ≡ findBy (pageSought s) (p .book .pages) 0
+      → findBy (λ (q : Page). pageSought s (pageLineOf q)) (deskOf p .pages) 0 ≡ findBy (pageSought s) (p .book .pages)
+      0
   find-pages s =
       find-map pageLineOf (pageSought s) (deskOf p .pages) 0
       ∙ ap (λ (ls : List PageLine). findBy (pageSought s) ls 0) (lines-off _ _ _ tables-long rows-long)
 
   pub find-places : (s : Sought)
-      → findBy (λ (q : Place). placeSought s (placeLineOf q)) (deskOf p .places) 0 ≡ findBy (placeSought s) (p .book .places) 0
+      → findBy (λ (q : Place). placeSought s (placeLineOf q)) (deskOf p .places) 0 ≡ findBy (placeSought s)
+      (p .book .places) 0
   find-places s =
       find-map placeLineOf (placeSought s) (deskOf p .places) 0
       ∙ ap (λ (ls : List PlaceLine). findBy (placeSought s) ls 0) (place-lines-off _ _ learned-long)
 
-  pub page-in : (i : ℕ) → getD (deskOf p .pages) i noPage ≡ asPage (getD (p .book .pages) i noPageLine) (getD (p .working) i []) (getD (p .rows) i [])
+  pub page-in : (i : ℕ) → getD (deskOf p .pages) i noPage ≡ asPage (getD (p .book .pages) i noPageLine)
+      (getD (p .working) i []) (getD (p .rows) i [])
   page-in i = get-pages _ _ _ tables-long rows-long i
 
-  pub place-in : (i : ℕ) → getD (deskOf p .places) i noPlace ≡ asPlace (getD (p .book .places) i noPlaceLine) (getD (p .learned) i [])
+  pub place-in : (i : ℕ) → getD (deskOf p .places) i noPlace ≡ asPlace (getD (p .book .places) i noPlaceLine)
+      (getD (p .learned) i [])
   place-in i = get-places _ _ learned-long i
 
 -- ---- the desk says every part: two sets of parts, of their types' sizes, that are read as one desk are one
@@ -117,15 +124,18 @@ same-parts p q w v e =
 
     working : p .working ≡ q .working
     working =
-        sym (tables-off _ _ _ (tables-long p w) (rows-long p w)) ∙ ap (λ (d : Desk). map (λ (x : Page). x .table .entries) (d .pages)) e
+        sym (tables-off _ _ _ (tables-long p w) (rows-long p w))
+        ∙ ap (λ (d : Desk). map (λ (x : Page). x .table .entries) (d .pages)) e
         ∙ tables-off _ _ _ (tables-long q v) (rows-long q v)
 
     rows : p .rows ≡ q .rows
     rows =
-        sym (rows-off _ _ _ (tables-long p w) (rows-long p w)) ∙ ap (λ (d : Desk). map (λ (x : Page). x .last) (d .pages)) e
+        sym (rows-off _ _ _ (tables-long p w) (rows-long p w)) ∙ ap (λ (d : Desk). map (λ (x : Page). x .last)
+        (d .pages)) e
         ∙ rows-off _ _ _ (tables-long q v) (rows-long q v)
 
     learned : p .learned ≡ q .learned
     learned =
-        sym (learned-off _ _ (learned-long p w)) ∙ ap (λ (d : Desk). map (λ (x : Place). x .table .entries) (d .places)) e
+        sym (learned-off _ _ (learned-long p w)) ∙ ap (λ (d : Desk). map (λ (x : Place). x .table .entries)
+        (d .places)) e
         ∙ learned-off _ _ (learned-long q v)

@@ -17,7 +17,8 @@ use Rattle.parts.specs.Puts.{PagePut, PlacePut}
 
 -- ---- the stores that do it
 pub page-put : (book : Book) (working rows : List (List ℕ)) (i : ℕ) (l : PageLine) (t r : List ℕ)
-    → PagePut book working rows i (asPage l t r) (record { pages = set (book .pages) i l; places = book .places }) (set working i t) (set rows i r)
+    → PagePut book working rows i (asPage l t r) (record { pages = set (book .pages) i l; places = book .places })
+    (set working i t) (set rows i r)
 page-put book working rows i l t r =
     record {
       places = refl;
@@ -25,8 +26,10 @@ page-put book working rows i l t r =
       sizes = (length-set (book .pages) i l, length-set working i t, length-set rows i r);
     }
 
-pub place-put : (book : Book) (learned : List (List ℕ)) (found : Found) (i : ℕ) (l : PlaceLine) (t : List ℕ) → found ≡ At i
-    → PlacePut book learned found (asPlace l t) (record { pages = book .pages; places = set (book .places) i l }) (set learned i t)
+pub place-put : (book : Book) (learned : List (List ℕ)) (found : Found) (i : ℕ) (l : PlaceLine) (t : List ℕ)
+    → found ≡ At i
+    → PlacePut book learned found (asPlace l t) (record { pages = book .pages; places = set (book .places) i l })
+    (set learned i t)
 place-put book learned found i l t e =
     record {
       pages = refl;
@@ -42,7 +45,12 @@ no-place-put book learned found place e = record { pages = refl; places = rw e; 
 pub page-as : {book next : Book} {working rows working′ rows′ : List (List ℕ)} {i : ℕ} {a b : Page} → a ≡ b
     → PagePut book working rows i a next working′ rows′ → PagePut book working rows i b next working′ rows′
 page-as {book = book} {working = working} {rows = rows} {i = i} e p =
-    record { places = p .places; pages = p .pages ∙ ap (set (pagesOf (book .pages) working rows) i) e; sizes = p .sizes }
+    record {
+      places = p .places;
+      pages = p .pages ∙ ap (set (pagesOf (book .pages) working rows) i) e;
+      sizes =
+          p .sizes;
+    }
 
 pub place-as : {book next : Book} {learned learned′ : List (List ℕ)} {found : Found} {a b : Place} → a ≡ b
     → PlacePut book learned found a next learned′ → PlacePut book learned found b next learned′
@@ -54,14 +62,16 @@ place-as {book = book} {learned = learned} {found = found} e p =
     }
 
 -- the same book
-pub whole-as : {book next : Book} {working rows learned : List (List ℕ)} → next ≡ book → Whole (partsOf book working rows learned)
+pub whole-as : {book next : Book} {working rows learned : List (List ℕ)} → next ≡ book
+    → Whole (partsOf book working rows learned)
     → Whole (partsOf next working rows learned)
 whole-as {working = working} {rows = rows} {learned = learned} e w =
     subst (λ (b : Book). Whole (partsOf b working rows learned)) (sym e) w
 
 -- every part keeps its size
 module _ {book next : Book} {working rows learned : List (List ℕ)} (w : Whole (partsOf book working rows learned)) where
-  pub page-whole : {i : ℕ} {page : Page} {working′ rows′ : List (List ℕ)} → PagePut book working rows i page next working′ rows′
+  pub page-whole : {i : ℕ} {page : Page} {working′ rows′ : List (List ℕ)} → PagePut book working rows i page next
+      working′ rows′
       → Whole (partsOf next working′ rows′ learned)
   page-whole p =
       record {
@@ -70,7 +80,8 @@ module _ {book next : Book} {working rows learned : List (List ℕ)} (w : Whole 
         arrays = (p .sizes .1 ∙ w .arrays .0, p .sizes .2 ∙ w .arrays .1, w .arrays .2);
       }
 
-  pub place-whole : {found : Found} {place : Place} {learned′ : List (List ℕ)} → PlacePut book learned found place next learned′
+  pub place-whole : {found : Found} {place : Place} {learned′ : List (List ℕ)} → PlacePut book learned found place
+      next learned′
       → Whole (partsOf next working rows learned′)
   place-whole p =
       record {

@@ -12,7 +12,8 @@ use Rattle.desk.specs.Desk.{Page, Place, Desk}
 
 -- a page: a line of the book, with its working table and its last row
 abbrev pub asPage : PageLine → List ℕ → List ℕ → Page
-asPage l table last = record { state = l .state; key = l .key; width = l .width; table = record { entries = table }; last = last }
+asPage l table last =
+    record { state = l .state; key = l .key; width = l .width; table = record { entries = table }; last = last }
 
 -- a place: a line of the book, with its learned table
 abbrev pub asPlace : PlaceLine → List ℕ → Place
@@ -26,7 +27,8 @@ beside f (x ∷ xs) (y ∷ ys) = f x y ∷ beside f xs ys
 
 -- the pages: each line of the book with what stands at its index in the two arrays
 abbrev pub pagesOf : List PageLine → List (List ℕ) → List (List ℕ) → List Page
-pagesOf lines tables lasts = beside (λ (p : PageLine × List ℕ) last. asPage (p .0) (p .1) last) (beside (λ l t. (l, t)) lines tables) lasts
+pagesOf lines tables lasts = beside (λ (p : PageLine × List ℕ) last. asPage (p .0) (p .1) last)
+    (beside (λ l t. (l, t)) lines tables) lasts
 
 -- the places: each line of the book with what stands at its index in the array
 abbrev pub placesOf : List PlaceLine → List (List ℕ) → List Place
@@ -34,7 +36,11 @@ placesOf lines tables = beside asPlace lines tables
 
 -- the parts in memory, read as a desk
 abbrev pub deskOf : Parts → Desk
-deskOf p = record { pages = pagesOf (p .book .pages) (p .working) (p .rows); places = placesOf (p .book .places) (p .learned) }
+deskOf p = record {
+  pages = pagesOf (p .book .pages) (p .working) (p .rows);
+  places = placesOf (p .book .places)
+      (p .learned);
+}
 
 -- the book and the three arrays, as parts
 abbrev pub partsOf : Book → List (List ℕ) → List (List ℕ) → List (List ℕ) → Parts

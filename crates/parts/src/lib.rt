@@ -3,7 +3,8 @@ ghost use mathlib.Core.Path.{_≡_};
 ghost use Prim.Native.Nat.{_<_};
 ghost use lib.ListN.{length, drop};
 ghost use Rattle.limits.specs.Limits.{maxPages, maxPlaces};
-ghost use Rattle.desk.specs.Places.{noKey, zeroTable, unusedPage, freePlace, emptyDesk, sameKey, isUnder, findBy, isFound};
+ghost use Rattle.desk.specs.Places.{noKey, zeroTable, unusedPage, freePlace, emptyDesk, sameKey, isUnder, findBy};
+ghost use Rattle.desk.specs.Places.{isFound};
 ghost use Rattle.parts.specs.Parts.{asPage, asPlace, partsOf, deskOf, Whole};
 ghost use Rattle.parts.specs.Finding.{foundBelow, isSought, pageSought, placeSought};
 ghost use Rattle.parts.specs.Puts.{PagePut, PlacePut};
@@ -167,7 +168,8 @@ pub fn put_place(
     table: Table,
 ) -> Book
     requires { ⌜ foundBelow maxPlaces found × (length (now learned) ≡ maxPlaces) ⌝ }
-    ensures { λ r. ⌜ PlacePut book (now (learned .entry)) found (asPlace place (table .entries)) r (now (learned .exit)) ⌝ }
+    ensures { λ r. ⌜ PlacePut book (now (learned .entry)) found (asPlace place (table .entries)) r
+        (now (learned .exit)) ⌝ }
 {
     let Found::At(i) = found else {
         return book;
@@ -196,7 +198,8 @@ pub fn clear_page<'a>(
     i: usize,
 ) -> Book
     requires { ⌜ (i < maxPages) × (length (now working) ≡ maxPages) × (length (now rows) ≡ maxPages) ⌝ }
-    ensures { λ r. ⌜ PagePut book (now (working .entry)) (now (rows .entry)) i unusedPage r (now (working .exit)) (now (rows .exit)) ⌝ }
+    ensures { λ r. ⌜ PagePut book (now (working .entry)) (now (rows .entry)) i unusedPage r (now (working .exit))
+        (now (rows .exit)) ⌝ }
 {
     let page = PageLine {
         state: 0,
@@ -225,7 +228,8 @@ pub fn emptied<'a>(
     rows: &'a mut [[u8; ROW]; PAGES],
     learned: &'a mut [[u8; CONTEXTS]; PLACES],
 ) -> Book
-    ensures { λ r. ⌜ (deskOf (partsOf r (now (working .exit)) (now (rows .exit)) (now (learned .exit))) ≡ emptyDesk) × Whole (partsOf
+    ensures { λ r. ⌜ (deskOf (partsOf r (now (working .exit)) (now (rows .exit)) (now (learned .exit))) ≡ emptyDesk)
+        × Whole (partsOf
         r (now (working .exit)) (now (rows .exit)) (now (learned .exit))) ⌝ }
 {
     *working = [[0u8; CONTEXTS]; PAGES];

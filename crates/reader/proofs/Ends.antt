@@ -28,8 +28,10 @@ use Rattle.reader.specs.Found.{rowsFit, readAnswer, readOut, BandFound}
 use Rattle.reader.proofs.Verdict.{agreed, agrees}
 use Rattle.unique.proofs.BandPels.{reads-written, code-of-pels}
 
-module _ (width rows : ℕ) (table : Table) (last given out₀ above : List ℕ) (r : Reading) (out : List ℕ) (b : BandRead width last given (table .entries) out₀ above r out rows)
-    (lasts : List ℕ) (e : lasts ≡ bytes (finish (lift (r .coder) []))) (more : 1 ≤ length lasts) (fits : rowsFit width rows out₀ ≡ true) where
+module _ (width rows : ℕ) (table : Table) (last given out₀ above : List ℕ) (r : Reading) (out : List ℕ)
+    (b : BandRead width last given (table .entries) out₀ above r out rows)
+    (lasts : List ℕ) (e : lasts ≡ bytes (finish (lift (r .coder) []))) (more : 1 ≤ length lasts)
+    (fits : rowsFit width rows out₀ ≡ true) where
   abbrev all : List ℕ
   all = b .settled ++ lasts
 
@@ -41,7 +43,8 @@ module _ (width rows : ℕ) (table : Table) (last given out₀ above : List ℕ)
 
   code-is : written width rows t₀ last (b .band) .code ≡ drop 1 all
   unfolding written code
-  code-is = ap (λ (s : Stage (qPage width) qWriter). code (s .writer)) (b .stage) ∙ ap (drop 1) (finish-behind (r .coder) (b .settled) lasts e)
+  code-is = ap (λ (s : Stage (qPage width) qWriter). code (s .writer)) (b .stage) ∙ ap (drop 1)
+      (finish-behind (r .coder) (b .settled) lasts e)
 
   shifts-is : written width rows t₀ last (b .band) .shifts ≡ r .coder .interval .count
   unfolding written
@@ -56,38 +59,63 @@ module _ (width rows : ℕ) (table : Table) (last given out₀ above : List ℕ)
   last-is h = sym (b .lastIs h)
 
   -- what was compared, in all
-  compared : (n : ℕ) → n ≡ r .at + length lasts → ((r .good && matches given (r .at) lasts) && eqb (n - 1) (length given)) ≡ (matches given 0 all && eqb (length all - 1) (length given))
+  compared : (n : ℕ) → n ≡ r .at + length lasts
+      → ((r .good && matches given (r .at) lasts) && eqb (n - 1) (length given))
+      ≡ (matches given 0 all && eqb (length all - 1) (length given))
   compared n h =
       ap₂ (λ (x : Bool) (k : ℕ). x && eqb (k - 1) (length given))
-      (ap₂ (λ (x : Bool) (k : ℕ). x && matches given k lasts) (b .matched) (b .place ∙ sym (zero-add (length (b .settled)))) ∙ sym (matches-append given 0 (b .settled) lasts))
+      (ap₂ (λ (x : Bool) (k : ℕ). x && matches given k lasts) (b .matched)
+      (b .place ∙ sym (zero-add (length (b .settled)))) ∙ sym (matches-append given 0 (b .settled) lasts))
       (h ∙ ap (λ (k : ℕ). k + length lasts) (b .place) ∙ sym (length-append (b .settled) lasts))
 
   -- the pels that the laws' reader reads are the band's
-  pels-are : readPels (qPage width) qReader (rows * width) (pageAt width t₀ last) (opened given) ≡ bandTo width (b .band) rows
+  pels-are : readPels (qPage width) qReader (rows * width) (pageAt width t₀ last) (opened given) ≡ bandTo width
+      (b .band) rows
   unfolding readPels
-  pels-are = ap (λ (k : ℕ). reads width k (pageAt width t₀ last) (opened given)) (sym (add-zero (rows * width))) ∙ b .read 0 ∙ append-nil (bandTo width (b .band) rows)
+  pels-are = ap (λ (k : ℕ). reads width k (pageAt width t₀ last) (opened given)) (sym (add-zero (rows * width)))
+      ∙ b .read 0 ∙ append-nil (bandTo width (b .band) rows)
 
   module _ (n : ℕ) (count : n ≡ r .at + length lasts) (some-rows : 1 ≤ rows) where
     pub read-done : ((r .good && matches given (r .at) lasts) && eqb (n - 1) (length given)) ≡ true
         → BandFound width rows table last given out₀
-        (record { room = true; good = true; length = rows * rowBytes width; shifts = r .coder .interval .count; table = record { entries = r .table .entries }; last = above }) out
+        (record {
+          room = true;
+          good = true;
+          length = rows * rowBytes width;
+          shifts = r .coder .interval .count;
+          table =
+              record { entries = r .table .entries };
+          last = above;
+        }) out
     unfolding readAnswer readOut inFront
     read-done h =
         record {
           found = some (b .band);
           right = λ k. (b .isBand, code-is ∙ agreed given all all-some (sym (compared n count) ∙ h));
-          answer = rw fits (λ i. record { room = true; good = true; length = sym (b .isBand .size) i; shifts = sym shifts-is i; table = record { entries = sym table-is i }; last = sym (last-is some-rows) i });
+          answer = rw fits
+              (λ i. record {
+                room = true;
+                good = true;
+                length = sym (b .isBand .size) i;
+                shifts =
+                    sym shifts-is i;
+                table = record { entries = sym table-is i };
+                last = sym (last-is some-rows) i;
+              });
           lent = rw fits (b .front ∙ ap (λ (k : ℕ). b .band ++ drop k out₀) (sym (b .isBand .size)));
         }
 
-    pub read-damaged : ((r .good && matches given (r .at) lasts) && eqb (n - 1) (length given)) ≡ false → (after : List ℕ) → after ≡ cleared out → length out ≡ length out₀
-        → BandFound width rows table last given out₀ (record { room = true; good = false; length = 0; shifts = 0; table = table; last = last }) after
+    pub read-damaged : ((r .good && matches given (r .at) lasts) && eqb (n - 1) (length given)) ≡ false
+        → (after : List ℕ) → after ≡ cleared out → length out ≡ length out₀
+        → BandFound width rows table last given out₀
+        (record { room = true; good = false; length = 0; shifts = 0; table = table; last = last }) after
     unfolding readAnswer readOut cleared
     read-damaged h after a l =
         record {
           found = none;
           right = λ k band isBand w. absurd (apart (sym h ∙ compared n count
-              ∙ agrees given all all-some (sym code-is ∙ code-of-pels width rows t₀ last (b .band) band (sym pels-are ∙ reads-written width rows t₀ last given band w) ∙ w)));
+              ∙ agrees given all all-some (sym code-is ∙ code-of-pels width rows t₀ last (b .band) band
+              (sym pels-are ∙ reads-written width rows t₀ last given band w) ∙ w)));
           answer = rw fits refl;
           lent = a ∙ ap (λ (k : ℕ). replicate k 0) l;
         }
@@ -96,8 +124,10 @@ module _ (width rows : ℕ) (table : Table) (last given out₀ above : List ℕ)
         apart q = let z : _≡_ {A = ℕ} 0 1 = cc in omega arith
 
 -- no room: the code is not looked at
-pub read-nothing : (width rows : ℕ) (table : Table) (last given out₀ after : List ℕ) → rowsFit width rows out₀ ≡ false → after ≡ cleared out₀
-    → BandFound width rows table last given out₀ (record { room = false; good = false; length = 0; shifts = 0; table = table; last = last }) after
+pub read-nothing : (width rows : ℕ) (table : Table) (last given out₀ after : List ℕ) → rowsFit width rows out₀ ≡ false
+    → after ≡ cleared out₀
+    → BandFound width rows table last given out₀
+    (record { room = false; good = false; length = 0; shifts = 0; table = table; last = last }) after
 unfolding readAnswer readOut
 read-nothing width rows table last given out₀ after f a =
     record { found = none; right = λ k. absurd (apart (sym f ∙ k)); answer = rw f refl; lent = a }
@@ -105,13 +135,17 @@ read-nothing width rows table last given out₀ after f a =
     apart : false ≡ true → ⊥
     apart q = let z : _≡_ {A = ℕ} 0 1 = cc in omega arith
 
-pub fits-when : (width rows bytes′ : ℕ) (out : List ℕ) → bytes′ ≡ rowBytes width → rows * bytes′ ≤ length out → rowsFit width rows out ≡ true
+pub fits-when : (width rows bytes′ : ℕ) (out : List ℕ) → bytes′ ≡ rowBytes width → rows * bytes′ ≤ length out
+    → rowsFit width rows out ≡ true
 unfolding rowsFit
-fits-when width rows bytes′ out e h = le-leb (rows * rowBytes width) (length out) (subst (λ (k : ℕ). rows * k ≤ length out) e h)
+fits-when width rows bytes′ out e h = le-leb (rows * rowBytes width) (length out)
+    (subst (λ (k : ℕ). rows * k ≤ length out) e h)
 
-pub fits-not : (width rows bytes′ : ℕ) (out : List ℕ) → bytes′ ≡ rowBytes width → length out < rows * bytes′ → rowsFit width rows out ≡ false
+pub fits-not : (width rows bytes′ : ℕ) (out : List ℕ) → bytes′ ≡ rowBytes width → length out < rows * bytes′
+    → rowsFit width rows out ≡ false
 unfolding rowsFit
-fits-not width rows bytes′ out e h = lt-leb (rows * rowBytes width) (length out) (subst (λ (k : ℕ). length out < rows * k) e h)
+fits-not width rows bytes′ out e h = lt-leb (rows * rowBytes width) (length out)
+    (subst (λ (k : ℕ). length out < rows * k) e h)
 
 pub as-compared : (g s r : Bool) (n len : ℕ) (v : Bool) → s ≡ g → r ≡ (s && eqb n len) → r ≡ v → (g && eqb n len) ≡ v
 as-compared g s r n len v e f h = ap (λ (b : Bool). b && eqb n len) (sym e) ∙ sym f ∙ h

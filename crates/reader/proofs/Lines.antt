@@ -17,22 +17,33 @@ use Rattle.reader.proofs.ReadRow.{RowRead}
 use Rattle.reader.specs.Lines.{LineRead}
 
 -- from where the loop ends
-module _ (width : ℕ) (above code : List ℕ) (s : Reading) (some : 1 ≤ width) (l : Line) (w : Window) (x : ℕ) (whole : x ≡ width)
-    (f : RowRead width above (s .table .entries) (s .coder) code (s .at) (s .good) (s .view) (l .row) (l .reading .table .entries) (l .reading .coder) w (l .reading .view) (l .reading .at) (l .reading .good) x) where
-  start-page : pageOf width (s .table .entries) above [] ≡ record { table = s .table .entries; above = above; this = [] }
+module _ (width : ℕ) (above code : List ℕ) (s : Reading) (some : 1 ≤ width) (l : Line) (w : Window) (x : ℕ)
+    (whole : x ≡ width)
+    (f : RowRead width above (s .table .entries) (s .coder) code (s .at) (s .good) (s .view) (l .row)
+    (l .reading .table .entries) (l .reading .coder) w (l .reading .view) (l .reading .at) (l .reading .good)
+    x) where
+  start-page : pageOf width (s .table .entries) above []
+      ≡ record { table = s .table .entries; above = above; this = [] }
   start-page = page-within width (s .table .entries) above [] some
 
-  end-page : pageOf width (l .reading .table .entries) above (pelsTo (l .row) width) ≡ record { table = l .reading .table .entries; above = pelsTo (l .row) width; this = [] }
+  end-page : pageOf width (l .reading .table .entries) above (pelsTo (l .row) width)
+      ≡ record { table = l .reading .table .entries; above = pelsTo (l .row) width; this = [] }
   end-page = page-full width (l .reading .table .entries) above (pelsTo (l .row) width) (length-pels (l .row) width)
 
   pub line-read : LineRead width above code s l
   line-read =
-      let g = subst (λ (n : ℕ). RowRead width above (s .table .entries) (s .coder) code (s .at) (s .good) (s .view) (l .row) (l .reading .table .entries) (l .reading .coder) w (l .reading .view) (l .reading .at) (l .reading .good) n) whole f in
+      let g = subst (λ (n : ℕ). RowRead width above (s .table .entries) (s .coder) code (s .at) (s .good) (s .view)
+      (l .row) (l .reading .table .entries) (l .reading .coder) w (l .reading .view) (l .reading .at)
+      (l .reading .good) n) whole f in
       record {
         settled = g .settled;
-        stage = ap (λ (m : Page). through width (stageOf width m (lift (s .coder) [])) (pelsTo (l .row) width)) (sym start-page) ∙ g .stage ∙ ap (λ (m : Page). stageOf width m (lift (l .reading .coder) (g .settled))) end-page;
-        read = λ n. ap (λ (m : Page). reads width (width + n) m (sightOf (s .view) (s .coder .interval .width) code)) (sym start-page) ∙ g .read n
-            ∙ ap (λ (m : Page). pelsTo (l .row) width ++ reads width n m (sightOf (l .reading .view) (l .reading .coder .interval .width) code)) end-page;
+        stage = ap (λ (m : Page). through width (stageOf width m (lift (s .coder) [])) (pelsTo (l .row) width))
+            (sym start-page) ∙ g .stage ∙ ap (λ (m : Page). stageOf width m (lift (l .reading .coder) (g .settled)))
+            end-page;
+        read = λ n. ap (λ (m : Page). reads width (width + n) m (sightOf (s .view) (s .coder .interval .width) code))
+            (sym start-page) ∙ g .read n
+            ∙ ap (λ (m : Page). pelsTo (l .row) width ++ reads width n m
+            (sightOf (l .reading .view) (l .reading .coder .interval .width) code)) end-page;
         matched = g .matched;
         place = g .place;
         few = g .few;

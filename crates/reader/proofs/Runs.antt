@@ -28,17 +28,20 @@ use Rattle.sight.specs.Still.{viewBy}
 use Rattle.sight.proofs.Still.{view-none, view-more, stillTold, told-still}
 
 -- nothing is compared after such a pel
-pub match-none : (c : Coder) (e : ℕ) (b : Bool) (u : Pel) (code : List ℕ) (at : ℕ) (good : Bool) → Pelled c e b u → u .moved ≡ false
+pub match-none : (c : Coder) (e : ℕ) (b : Bool) (u : Pel) (code : List ℕ) (at : ℕ) (good : Bool) → Pelled c e b u
+    → u .moved ≡ false
     → good ≡ (good && matches code at (bytesOf u))
 unfolding matches
-match-none c e b u code at good k z = sym (and-true good) ∙ ap (λ (bs : List ℕ). good && matches code at bs) (sym (pelled-quiet c e b u k z))
+match-none c e b u code at good k z = sym (and-true good) ∙ ap (λ (bs : List ℕ). good && matches code at bs)
+    (sym (pelled-quiet c e b u k z))
 
 -- what fits into the room is told
 pub told-so : (n q r p x : ℕ) → n * q ≤ r → r * p ≤ x → n * q * p ≤ x
 told-so n q r p x h k = omega (arith, mul-le-mul-right p h)
 
 -- ---- white pels in context 0, whose entry expects white: told as such by the code
-module _ (width : ℕ) (over t₀ : List ℕ) (c₀ : Coder) (code : List ℕ) (at₀ : ℕ) (good₀ : Bool) (v₀ : View) (row t : List ℕ) (at : ℕ) (good : Bool)
+module _ (width : ℕ) (over t₀ : List ℕ) (c₀ : Coder) (code : List ℕ) (at₀ : ℕ) (good₀ : Bool) (v₀ : View)
+    (row t : List ℕ) (at : ℕ) (good : Bool)
     (white : getD t 0 0 % 2 ≡ 0) (b : (y : ℕ) → getD over y 0 ≤ 1) (narrow : width ≤ maxWidth) where
   abbrev e : ℕ
   e = getD t 0 0
@@ -50,22 +53,30 @@ module _ (width : ℕ) (over t₀ : List ℕ) (c₀ : Coder) (code : List ℕ) (
   On c v x = RowRead width over t₀ c₀ code at₀ good₀ v₀ row t c (whiteWindow over x) v at good x
 
   -- one of them: row, table, place and comparison stay
-  one : (c : Coder) (v : View) (x : ℕ) → On c v x → x < width → 4096 + q ≤ c .interval .width → q * 2 ^ v .look ≤ v .x → getD over (x + 2) 0 ≡ 0
+  one : (c : Coder) (v : View) (x : ℕ) → On c v x → x < width → 4096 + q ≤ c .interval .width → q * 2 ^ v .look ≤ v .x
+      → getD over (x + 2) 0 ≡ 0
       → On (stillBy q c) (viewBy q v) (suc x)
   unfolding matches
   one c v x f h wide told a =
-      let cx : 0 ≡ context over (pelsTo row x) x = sym (omega (arith, a)) ∙ slid-context over (pelsTo row x) x (whiteWindow over x) (f .slid) in
+      let cx : 0 ≡ context over (pelsTo row x) x = sym (omega (arith, a)) ∙ slid-context over (pelsTo row x) x
+      (whiteWindow over x) (f .slid) in
       let s : getD over (suc x + 2) 0 ≡ getD over (x + 3) 0 = ap (λ (k : ℕ). getD over k 0) (omega arith) in
-      let r : set row (x / 8) (getD row (x / 8) 0 + 0) ≡ row = ap (set row (x / 8)) (omega arith) ∙ set-getD row (x / 8) 0 in
-      subst (λ (l : List ℕ). RowRead width over t₀ c₀ code at₀ good₀ v₀ l t (stillBy q c) (whiteWindow over (suc x)) (viewBy q v) at good (suc x)) r
-      (read-turn width over t₀ c₀ code at₀ good₀ v₀ row t c (whiteWindow over x) v at good x f h narrow b (stillTold c v e) 0 0 0 t
+      let r : set row (x / 8) (getD row (x / 8) 0 + 0) ≡ row = ap (set row (x / 8)) (omega arith) ∙ set-getD row
+      (x / 8) 0 in
+      subst (λ (l : List ℕ). RowRead width over t₀ c₀ code at₀ good₀ v₀ l t (stillBy q c) (whiteWindow over (suc x))
+      (viewBy q v) at good (suc x)) r
+      (read-turn width over t₀ c₀ code at₀ good₀ v₀ row t c (whiteWindow over x) v at good x f h narrow b
+      (stillTold c v e) 0 0 0 t
       (whiteWindow over (suc x)) at
-      good (sym (set-getD t 0 0)) cx (told-still c v code e wide told (f .within) (f .near) (f .small)) (sym white) (sym (zero-mul (2 ^ (7 - x % 8))))
+      good (sym (set-getD t 0 0)) cx (told-still c v code e wide told (f .within) (f .near) (f .small)) (sym white)
+      (sym (zero-mul (2 ^ (7 - x % 8))))
       (omega (arith, b (x + 3))) (omega arith) (omega arith) (sym (and-true good)))
 
   -- as the code has it: n of the pels up to y, from a window that is white, are one step
-  pub read-run : (c : Coder) (w : Window) (v : View) (x y n s : ℕ) → RowRead width over t₀ c₀ code at₀ good₀ v₀ row t c w v at good x
-      → 4 * w .above + w .this ≡ 0 → y ≤ width → Under over x y → x ≤ y → n ≤ y - x → s ≡ n * q → 4096 + s ≤ c .interval .width
+  pub read-run : (c : Coder) (w : Window) (v : View) (x y n s : ℕ) → RowRead width over t₀ c₀ code at₀ good₀ v₀ row t c
+      w v at good x
+      → 4 * w .above + w .this ≡ 0 → y ≤ width → Under over x y → x ≤ y → n ≤ y - x → s ≡ n * q
+      → 4096 + s ≤ c .interval .width
       → s * 2 ^ v .look ≤ v .x
       → On (stillBy s c) (viewBy s v) (x + n)
   read-run c w v x y n s f z h u l k e room told =
@@ -73,9 +84,11 @@ module _ (width : ℕ) (over t₀ : List ℕ) (c₀ : Coder) (code : List ℕ) (
       (in-steps q x y s (λ m o. On (stillBy m c) (viewBy m v) o) step n (omega arith) (omega arith)
       (subst (λ (d : Coder). On d (viewBy 0 v) x) (sym (still-none c))
       (subst (λ (o : View). On c o x) (sym (view-none v))
-      (subst (λ (o : Window). RowRead width over t₀ c₀ code at₀ good₀ v₀ row t c o v at good x) (slid-white over (pelsTo row x) x w (f .slid) z) f))))
+      (subst (λ (o : Window). RowRead width over t₀ c₀ code at₀ good₀ v₀ row t c o v at good x)
+      (slid-white over (pelsTo row x) x w (f .slid) z) f))))
     where
-      step : (m o : ℕ) → x ≤ o → o < y → m + q ≤ s → On (stillBy m c) (viewBy m v) o → On (stillBy (m + q) c) (viewBy (m + q) v) (suc o)
+      step : (m o : ℕ) → x ≤ o → o < y → m + q ≤ s → On (stillBy m c) (viewBy m v) o
+          → On (stillBy (m + q) c) (viewBy (m + q) v) (suc o)
       step m o a b g r =
           let p : (m + q) * 2 ^ v .look ≡ m * 2 ^ v .look + q * 2 ^ v .look = add-mul m q (2 ^ v .look) in
           let i : (m + q) * 2 ^ v .look ≤ s * 2 ^ v .look = mul-le-mul-right (2 ^ v .look) g in

@@ -12,31 +12,37 @@ use Rattle.ground.proofs.Bools.{both}
 use Rattle.reader.specs.ReadRow.{matchAt, matches}
 
 -- ---- the bytes that were compared
-same-from : (code : List ℕ) (n : ℕ) (bs : List ℕ) → matches code (suc n) bs ≡ true → n + length bs ≡ length code → drop n code ≡ bs
+same-from : (code : List ℕ) (n : ℕ) (bs : List ℕ) → matches code (suc n) bs ≡ true → n + length bs ≡ length code
+    → drop n code ≡ bs
 unfolding matches matchAt
 same-from code n [] e l = drop-of-length-le code {i = n} (omega arith)
 same-from code n (b ∷ bs) e l =
     let k = both (ltb n (length code) && eqb (getD code n 0) b) (matches code (suc (suc n)) bs) e in
     let m = both (ltb n (length code)) (eqb (getD code n 0) b) (k .0) in
-    drop-cons code n 0 (ltb-true n (length code) (m .0)) ∙ ap₂ (λ (x : ℕ) (xs : List ℕ). x ∷ xs) (eqb-true (getD code n 0) b (m .1)) (same-from code (suc n) bs (k .1) (omega arith))
+    drop-cons code n 0 (ltb-true n (length code) (m .0)) ∙ ap₂ (λ (x : ℕ) (xs : List ℕ). x ∷ xs)
+    (eqb-true (getD code n 0) b (m .1)) (same-from code (suc n) bs (k .1) (omega arith))
 
-from-same : (code : List ℕ) (n : ℕ) (bs : List ℕ) → drop n code ≡ bs → n + length bs ≡ length code → matches code (suc n) bs ≡ true
+from-same : (code : List ℕ) (n : ℕ) (bs : List ℕ) → drop n code ≡ bs → n + length bs ≡ length code
+    → matches code (suc n) bs ≡ true
 unfolding matches matchAt
 from-same code n [] e l = refl
 from-same code n (b ∷ bs) e l =
     let h : n < length code = omega arith in
     let k : getD code n 0 ∷ drop (suc n) code ≡ b ∷ bs = sym (drop-cons code n 0 h) ∙ e in
-    rw (lt-ltb n (length code) h, eq-eqb (getD code n 0) b (ap (λ (xs : List ℕ). getD xs 0 0) k)) (from-same code (suc n) bs (ap (λ (xs : List ℕ). drop 1 xs) k) (omega arith))
+    rw (lt-ltb n (length code) h, eq-eqb (getD code n 0) b (ap (λ (xs : List ℕ). getD xs 0 0) k))
+    (from-same code (suc n) bs (ap (λ (xs : List ℕ). drop 1 xs) k) (omega arith))
 
 -- all of them agreed, and there are as many as the code has
-pub agreed : (code all : List ℕ) → 1 ≤ length all → (matches code 0 all && eqb (length all - 1) (length code)) ≡ true → drop 1 all ≡ code
+pub agreed : (code all : List ℕ) → 1 ≤ length all → (matches code 0 all && eqb (length all - 1) (length code)) ≡ true
+    → drop 1 all ≡ code
 unfolding matches matchAt
 agreed code [] h e = absurd (omega arith)
 agreed code (z ∷ bs) h e =
     let k = both (matches code 1 bs) (eqb (suc (length bs) - 1) (length code)) e in
     sym (same-from code 0 bs (k .0) (omega (arith, eqb-true (suc (length bs) - 1) (length code) (k .1))))
 
-pub agrees : (code all : List ℕ) → 1 ≤ length all → drop 1 all ≡ code → (matches code 0 all && eqb (length all - 1) (length code)) ≡ true
+pub agrees : (code all : List ℕ) → 1 ≤ length all → drop 1 all ≡ code
+    → (matches code 0 all && eqb (length all - 1) (length code)) ≡ true
 unfolding matches matchAt
 agrees code [] h e = absurd (omega arith)
 agrees code (z ∷ bs) h e =

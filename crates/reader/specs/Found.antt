@@ -16,7 +16,8 @@ use Rattle.reader.specs.declared.Read.{Read}
 unfoldable pub rowsFit : ℕ → ℕ → List ℕ → Bool
 rowsFit width rows out = leb (rows * rowBytes width) (length out)
 
--- Accepted: S, the table and the last row after are those of writing that band. Damaged, or no room: nothing is changed.
+-- Accepted: S, the table and the last row after are those of writing that band. Damaged, or no room: nothing is
+-- changed.
 unfoldable pub readAnswer : Option (List ℕ) → ℕ → ℕ → Table → List ℕ → List ℕ → Read
 readAnswer (some band) width rows table last out =
     cond (rowsFit width rows out)
@@ -29,15 +30,18 @@ readAnswer (some band) width rows table last out =
       last = written width rows (table .entries) last band .last;
     })
     (record { room = false; good = false; length = 0; shifts = 0; table = table; last = last })
-readAnswer none width rows table last out = record { room = rowsFit width rows out; good = false; length = 0; shifts = 0; table = table; last = last }
+readAnswer none width rows table last out =
+    record { room = rowsFit width rows out; good = false; length = 0; shifts = 0; table = table; last = last }
 
 -- the band's rows in front and the rest kept; else all zero
 unfoldable pub readOut : Option (List ℕ) → ℕ → ℕ → List ℕ → List ℕ
 readOut (some band) width rows out = cond (rowsFit width rows out) (inFront band out) (cleared out)
 readOut none width rows out = cleared out
 
--- with room for the rows, what is found is right: a band that would have been written as exactly those bytes, or nothing where there is none
-pub record BandFound (width rows : ℕ) (table : Table) (last code out : List ℕ) (r : Read) (after : List ℕ) : Type 0 where
+-- with room for the rows, what is found is right: a band that would have been written as exactly those bytes, or
+-- nothing where there is none
+pub record BandFound (width rows : ℕ) (table : Table) (last code out : List ℕ) (r : Read) (after : List ℕ) :
+    Type 0 where
   pub found : Option (List ℕ)
   pub right : rowsFit width rows out ≡ true → Right width rows (table .entries) last code found
   pub answer : r ≡ readAnswer found width rows table last out

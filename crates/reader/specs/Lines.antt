@@ -26,9 +26,11 @@ module _ (width : ℕ) (above code : List ℕ) (s : Reading) where
 
   pub record LineRead (l : Line) : Type 0 where
     pub settled : List ℕ
-    pub stage : through width (stageOf width under (lift (s .coder) [])) (pelsTo (l .row) width) ≡ stageOf width (then l) (lift (l .reading .coder) settled)
+    pub stage : through width (stageOf width under (lift (s .coder) [])) (pelsTo (l .row) width) ≡ stageOf width
+        (then l) (lift (l .reading .coder) settled)
     pub read : (n : ℕ) → reads width (width + n) under (sightOf (s .view) (s .coder .interval .width) code)
-        ≡ pelsTo (l .row) width ++ reads width n (then l) (sightOf (l .reading .view) (l .reading .coder .interval .width) code)
+        ≡ pelsTo (l .row) width ++ reads width n (then l)
+        (sightOf (l .reading .view) (l .reading .coder .interval .width) code)
     pub matched : l .reading .good ≡ (s .good && matches code (s .at) settled)
     pub place : l .reading .at ≡ s .at + length settled
     pub few : length settled ≤ 2 * width

@@ -27,9 +27,12 @@ module _ (width : ℕ) (last code t₀ out₀ : List ℕ) where
     pub isBand : IsBand width y band
     pub front : out ≡ band ++ drop (y * rowBytes width) out₀
     pub settled : List ℕ
-    pub stage : through width begun (bandTo width band y) ≡ stageOf width (record { table = r .table .entries; above = pelsTo above width; this = [] }) (lift (r .coder) settled)
+    pub stage : through width begun (bandTo width band y) ≡ stageOf width
+        (record { table = r .table .entries; above = pelsTo above width; this = [] }) (lift (r .coder) settled)
     pub read : (n : ℕ) → reads width (y * width + n) (pageAt width t₀ last) (opened code)
-        ≡ bandTo width band y ++ reads width n (record { table = r .table .entries; above = pelsTo above width; this = [] }) (sightOf (r .view) (r .coder .interval .width) code)
+        ≡ bandTo width band y ++ reads width n
+        (record { table = r .table .entries; above = pelsTo above width; this = [] })
+        (sightOf (r .view) (r .coder .interval .width) code)
     pub matched : r .good ≡ matches code 0 settled
     pub place : r .at ≡ length settled
     pub few : length settled ≤ 2 * maxWidth * y

@@ -22,7 +22,8 @@ use octets::Coder;
 use sight::View;
 use template::Window;
 
-// Where a reading stands: the writer's registers, the table, the bytes settled so far, whether each agreed with the code, and what is in sight.
+// Where a reading stands: the writer's registers, the table, the bytes settled so far, whether each agreed with the
+// code, and what is in sight.
 pub struct Reading {
     pub coder: Coder,
     pub table: Table,
@@ -81,7 +82,8 @@ pub fn pel_in_byte(p: u8, x: usize) -> u8
 
 // Where the run at x ends, as far as the row above tells: as it is known, or by a look along that row.
 fn run_end(above: &[u8], width: usize, x: usize, known: usize) -> usize
-    requires { ⌜ (width ≤ maxWidth) × (width ≤ 8 * length (now above)) × (x < width) × (known ≤ width) × Under (pelsTo (now above) width) x known ⌝ }
+    requires { ⌜ (width ≤ maxWidth) × (width ≤ 8 * length (now above)) × (x < width) × (known ≤ width)
+        × Under (pelsTo (now above) width) x known ⌝ }
     ensures { λ r. ⌜ (x ≤ r) × (r ≤ width) × Under (pelsTo (now (above .entry)) width) x r ⌝ }
 {
     if x < known {
@@ -151,7 +153,8 @@ pub fn read_row(code: &[u8], above: &[u8], width: usize, start: Reading) -> Line
     }
 }
 
-// What reading a band gives: whether there was room, whether the code was good, the bytes of all rows, S, and the table and last row after it.
+// What reading a band gives: whether there was room, whether the code was good, the bytes of all rows, S, and the table
+// and last row after it.
 pub struct Read {
     pub room: bool,
     pub good: bool,
@@ -176,8 +179,10 @@ pub fn read_rows(
     code: &[u8],
     out: &mut [u8],
 ) -> Rows
-    requires { ⌜ (1 ≤ width) × (width ≤ maxWidth) × (rows ≤ maxRows) × (rows * rowBytes width ≤ length (now out)) × LawfulTable (table .entries) ⌝ }
-    ensures { λ r. ⌜ BandRead width last (now (code .entry)) (table .entries) (now (out .entry)) (r .last) (r .reading) (now (out .exit)) rows ⌝ }
+    requires { ⌜ (1 ≤ width) × (width ≤ maxWidth) × (rows ≤ maxRows) × (rows * rowBytes width ≤ length (now out))
+        × LawfulTable (table .entries) ⌝ }
+    ensures { λ r. ⌜ BandRead width last (now (code .entry)) (table .entries) (now (out .entry)) (r .last) (r .reading)
+        (now (out .exit)) rows ⌝ }
 {
     let bytes = template::row_bytes(width);
     let coder = Coder::start();
@@ -239,7 +244,8 @@ fn not_read(room: bool, table: Table, last: [u8; ROW]) -> Read
     }
 }
 
-// A band back into a lent buffer: its rows in front and the rest kept; all zero where there is no room, or where no band was written so.
+// A band back into a lent buffer: its rows in front and the rest kept; all zero where there is no room, or where no
+// band was written so.
 pub fn read_band(
     table: Table,
     last: [u8; ROW],

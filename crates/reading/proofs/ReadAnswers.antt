@@ -39,7 +39,8 @@ over a b = go (leb b a) refl
 -- the tests that need the page
 abbrev onPage : Ask → List ℕ → List ℕ → Page → List Row
 onPage ask code out p =
-    row 9 (ltb (length out) (ask .rows * rowBytes (p .width))) ∷ row 10 (not (given (foundIn readBack p (ask .rows) code))) ∷ []
+    row 9 (ltb (length out) (ask .rows * rowBytes (p .width)))
+    ∷ row 10 (not (given (foundIn readBack p (ask .rows) code))) ∷ []
 
 -- both sizes that are tested first are right
 abbrev pub sizes : Ask → List ℕ → Bool
@@ -57,9 +58,11 @@ pub read-number : (d : Desk) (ask : Ask) (code out : List ℕ)
     ≡ refusal (pagedTo d (ask .key) (sizes ask code) 2 (onPage ask code out (pageOf (stand d (ask .key)))))
 unfolding number tests stand
 read-number d ask code out =
-    ap (λ (b : Bool). refusal (unlawful (stand d (ask .key)) ∷ unknown (ask .key) ∷ row 6 (not (within 1 (ask .rows) maxRows)) ∷ row 6 b ∷ rest))
+    ap (λ (b : Bool). refusal (unlawful (stand d (ask .key)) ∷ unknown (ask .key)
+    ∷ row 6 (not (within 1 (ask .rows) maxRows)) ∷ row 6 b ∷ rest))
     (over maxCode (length code))
-    ∙ two-sizes (unlawful (stand d (ask .key))) (unknown (ask .key)) (within 1 (ask .rows) maxRows) (leb (length code) maxCode) rest
+    ∙ two-sizes (unlawful (stand d (ask .key))) (unknown (ask .key)) (within 1 (ask .rows) maxRows)
+    (leb (length code) maxCode) rest
   where
     rest : List Row
     rest =
@@ -67,7 +70,8 @@ read-number d ask code out =
         ∷ onPage ask code out (orElse (openPage d (ask .key)) noPage)
 
 -- ---- on the page, by what reading gives
-module _ (d : Desk) (ask : Ask) (code out : List ℕ) (i : ℕ) (t : StoodTo d (ask .key) (sizes ask code) 2 i) (page : Page)
+module _ (d : Desk) (ask : Ask) (code out : List ℕ) (i : ℕ) (t : StoodTo d (ask .key) (sizes ask code) 2 i)
+    (page : Page)
     (at : pageOf (stand d (ask .key)) ≡ page) (r : Read) (after : List ℕ)
     (b : BandFound (page .width) (ask .rows) (page .table) (page .last) code out r after) where
   abbrev fits : Bool
@@ -85,7 +89,15 @@ module _ (d : Desk) (ask : Ask) (code out : List ℕ) (i : ℕ) (t : StoodTo d (
   abbrev pub answered : List ℕ → Read
   answered band =
       let w : Written = bandOf page (ask .rows) band in
-      record { room = true; good = true; length = length band; shifts = w .shifts; table = record { entries = w .table }; last = w .last }
+      record {
+        room = true;
+        good = true;
+        length = length band;
+        shifts = w .shifts;
+        table =
+            record { entries = w .table };
+        last = w .last;
+      }
 
   abbrev unanswered : Read
   unanswered = record { room = false; good = false; length = 0; shifts = 0; table = page .table; last = page .last }
@@ -118,18 +130,21 @@ module _ (d : Desk) (ask : Ask) (code out : List ℕ) (i : ℕ) (t : StoodTo d (
   module _ (room : r .room ≡ true) where
     found-is : foundIn readBack page (ask .rows) code ≡ b .found
     unfolding foundIn
-    found-is = sym (right-found (page .width) (ask .rows) (page .table .entries) (page .last) code (b .found) (b .right (sym room-is ∙ room)))
+    found-is = sym (right-found (page .width) (ask .rows) (page .table .entries) (page .last) code (b .found)
+        (b .right (sym room-is ∙ room)))
 
     told : number readBack d (reads ask code out) ≡ refusal (row 10 (not (given (b .found))) ∷ [])
     told =
-        on ∙ past _ _ (ap not (sym room-is ∙ room)) ∙ ap (λ (f : Option (List ℕ)). refusal (row 10 (not (given f)) ∷ [])) found-is
+        on ∙ past _ _ (ap not (sym room-is ∙ room))
+        ∙ ap (λ (f : Option (List ℕ)). refusal (row 10 (not (given f)) ∷ [])) found-is
 
     -- it was told good where a band was found
     good-is : r .good ≡ given (b .found)
     unfolding readAnswer
     good-is = ap (λ (x : Read). x .good) (b .answer) ∙ go (b .found)
       where
-        go : (f : Option (List ℕ)) → readAnswer f (page .width) (ask .rows) (page .table) (page .last) out .good ≡ given f
+        go : (f : Option (List ℕ)) → readAnswer f (page .width) (ask .rows) (page .table) (page .last) out .good
+            ≡ given f
         go none = refl
         go (some band) = rw (sym room-is ∙ room)
 
@@ -163,15 +178,19 @@ module _ (d : Desk) (ask : Ask) (code out : List ℕ) (i : ℕ) (t : StoodTo d (
       pub read-gave : r ≡ answered band
       unfolding readAnswer bandOf
       read-gave =
-          b .answer ∙ ap (λ (f : Option (List ℕ)). readAnswer f (page .width) (ask .rows) (page .table) (page .last) out) is-band
+          b .answer ∙ ap (λ (f : Option (List ℕ)). readAnswer f (page .width) (ask .rows) (page .table) (page .last)
+          out) is-band
           ∙ rw (sym room-is ∙ room)
 
       pub read-lent : after ≡ inFront band out
       unfolding readOut
-      read-lent = b .lent ∙ ap (λ (f : Option (List ℕ)). readOut f (page .width) (ask .rows) out) is-band ∙ rw (sym room-is ∙ room)
+      read-lent = b .lent ∙ ap (λ (f : Option (List ℕ)). readOut f (page .width) (ask .rows) out) is-band
+          ∙ rw (sym room-is ∙ room)
 
       pub read-effect : effectOn readBack d (reads ask code out) ≡ serves page (bandOf page (ask .rows) band) band out
       unfolding effect
       read-effect =
-          ap (λ (p : Page). serves p (bandOf p (ask .rows) (bandIn readBack p (ask .rows) code)) (bandIn readBack p (ask .rows) code) out) at
-          ∙ ap (λ (l : List ℕ). serves page (bandOf page (ask .rows) l) l out) (ap (λ (f : Option (List ℕ)). orElse f []) (found-is ∙ is-band))
+          ap (λ (p : Page). serves p (bandOf p (ask .rows) (bandIn readBack p (ask .rows) code))
+          (bandIn readBack p (ask .rows) code) out) at
+          ∙ ap (λ (l : List ℕ). serves page (bandOf page (ask .rows) l) l out)
+          (ap (λ (f : Option (List ℕ)). orElse f []) (found-is ∙ is-band))

@@ -15,7 +15,8 @@ use parts::Book;
 use parts::Reply;
 use refusals::Stands;
 
-// Read band: the rows that would have been written as exactly that code. The page's table and last row go on as the writer's did.
+// Read band: the rows that would have been written as exactly that code. The page's table and last row go on as the
+// writer's did.
 pub fn read<'a, 'b, 'c>(
     book: Book,
     working: &'a mut [[u8; CONTEXTS]; PAGES],
@@ -26,8 +27,10 @@ pub fn read<'a, 'b, 'c>(
     out: &'c mut [u8],
 ) -> Reply
     requires { ⌜ Sized (now working) (now rows) (now learned) ⌝ }
-    ensures { λ r. ⌜ Serves (partsOf book (now (working .entry)) (now (rows .entry)) (now (learned .entry))) (reads ask (now (code .entry))
-        (now (out .entry))) (r .answer) (partsOf (r .book) (now (working .exit)) (now (rows .exit)) (now (learned .exit))) (now (out .exit)) ⌝ }
+    ensures { λ r. ⌜ Serves (partsOf book (now (working .entry)) (now (rows .entry)) (now (learned .entry)))
+        (reads ask (now (code .entry))
+        (now (out .entry))) (r .answer) (partsOf (r .book) (now (working .exit)) (now (rows .exit))
+        (now (learned .exit))) (now (out .exit)) ⌝ }
 {
     let good = lawful::lawful_desk(book, working, rows, learned);
     let key = ask.key;

@@ -86,7 +86,8 @@ module _ (d : Desk) (k : Key) (sized : Bool) where
     unfolding refusal stand
     early-here h rest = go (lawful d) (lawfulKey k) sized (refusal rest) (λ z. h (first ∙ z)) ∙ sym first
       where
-        go : (g k s : Bool) (m : ℕ) → early g k s ≢ 0 → cond (not g) 12 (cond (not k) 1 (cond (not s) 6 m)) ≡ early g k s
+        go : (g k s : Bool) (m : ℕ) → early g k s ≢ 0 → cond (not g) 12 (cond (not k) 1 (cond (not s) 6 m))
+            ≡ early g k s
         go true true true m h = absurd (h refl)
         go true true false m h = refl
         go true false s m h = refl
@@ -136,8 +137,10 @@ module _ (d : Desk) (k : Key) (sized : Bool) where
         go : (g k z : Bool) (f : Found) → standing g k z f ≡ Refused n
             → Plain n × ((m : ℕ) → cond (not g) 12 (cond (not k) 1 (cond (not z) 6 (cond (not (isFound f)) 2 m))) ≡ n)
         go true true true (At i) e = no-way (ap isOn e)
-        go true true true Nothing e = let b = by 2 e (λ z. omega arith, λ z. omega arith, λ z. omega arith) in (b .1, λ m. b .0)
-        go true true false f e = let b = by 6 e (λ z. omega arith, λ z. omega arith, λ z. omega arith) in (b .1, λ m. b .0)
+        go true true true Nothing e = let b = by 2 e (λ z. omega arith, λ z. omega arith, λ z. omega arith) in
+            (b .1, λ m. b .0)
+        go true true false f e = let b = by 6 e (λ z. omega arith, λ z. omega arith, λ z. omega arith) in
+            (b .1, λ m. b .0)
         go true false z f e = let b = by 1 e (λ z. omega arith, λ z. omega arith, λ z. omega arith) in (b .1, λ m. b .0)
         go false k z f e = let b = by 12 e (λ z. omega arith, λ z. omega arith, λ z. omega arith) in (b .1, λ m. b .0)
 
@@ -145,7 +148,13 @@ module _ (d : Desk) (k : Key) (sized : Bool) where
     unfolding refusal stand standing onPage
     stood i e =
         let t = go (lawful d) (lawfulKey k) sized (pageFound d k) (sym is ∙ e) in
-        record { good = t .0; fits = t .2; found = t .3; rest = λ rs. rw (t .0, t .1, t .2, found-page d (pageFound d k), t .3) }
+        record {
+          good = t .0;
+          fits = t .2;
+          found = t .3;
+          rest =
+              λ rs. rw (t .0, t .1, t .2, found-page d (pageFound d k), t .3);
+        }
       where
         go : (g k z : Bool) (f : Found) → standing g k z f ≡ On i → (g ≡ true) × (k ≡ true) × (z ≡ true) × (f ≡ At i)
         go true true true (At j) e = (refl, refl, refl, ap At (ap placeOn e))
@@ -155,7 +164,8 @@ module _ (d : Desk) (k : Key) (sized : Bool) where
         go false k z f e = no-way (sym (ap isOn e))
 
     -- the pages' states are their lines'
-    module _ (lines : List PageLine) (states : (i : ℕ) → getD (d .pages) i noPage .state ≡ getD lines i noPageLine .state) (way : ℕ) where
+    module _ (lines : List PageLine) (states : (i : ℕ) → getD (d .pages) i noPage .state ≡ getD lines i
+        noPageLine .state) (way : ℕ) where
       at : (i : ℕ) → pageFound d k ≡ At i → orElse (openPage d k) noPage .state ≡ getD lines i noPageLine .state
       at i f = ap (λ (x : Found). orElse (pageBy d x) noPage .state) f ∙ states i
 
@@ -164,7 +174,8 @@ module _ (d : Desk) (k : Key) (sized : Bool) where
         unfolding standingTo
         away-to n e = go s refl (sym was ∙ e)
           where
-            go : (u : Stands) → s ≡ u → standingTo lines way u ≡ Refused n → Plain n × ((rs : List Row) → refusal (pagedTo way rs) ≡ n)
+            go : (u : Stands) → s ≡ u → standingTo lines way u ≡ Refused n
+                → Plain n × ((rs : List Row) → refusal (pagedTo way rs) ≡ n)
             go (Refused m) f e = let a = away n (f ∙ e) in (a .0, λ rs. a .1 _)
             go (On i) f e = turn (eqb (getD lines i noPageLine .state) way) refl e
               where
@@ -174,7 +185,8 @@ module _ (d : Desk) (k : Key) (sized : Bool) where
                 turn false g e =
                     let q : 7 ≡ n = ap numberOf e in (
                       (λ z. omega arith, λ z. omega arith, λ z. omega arith),
-                      λ rs. stood i f .rest _ ∙ here _ rs (ap not (ap (λ (x : ℕ). eqb x way) (at i (stood i f .found)) ∙ g)) ∙ q,
+                      λ rs. stood i f .rest _
+                          ∙ here _ rs (ap not (ap (λ (x : ℕ). eqb x way) (at i (stood i f .found)) ∙ g)) ∙ q,
                     )
 
         pub stood-to : (i : ℕ) → t ≡ On i → StoodTo way i
@@ -185,10 +197,12 @@ module _ (d : Desk) (k : Key) (sized : Bool) where
             go (Refused m) f e = no-way (sym (ap isOn e))
             go (On j) f e = turn (eqb (getD lines j noPageLine .state) way) refl e
               where
-                turn : (b : Bool) → eqb (getD lines j noPageLine .state) way ≡ b → cond b (On j) (Refused 7) ≡ On i → StoodTo way i
+                turn : (b : Bool) → eqb (getD lines j noPageLine .state) way ≡ b → cond b (On j) (Refused 7) ≡ On i
+                    → StoodTo way i
                 turn true g e =
                     let x = stood i (f ∙ e) in
-                    let w : eqb (getD lines i noPageLine .state) way ≡ true = ap (λ (y : ℕ). eqb (getD lines y noPageLine .state) way) (sym
+                    let w : eqb (getD lines i noPageLine .state) way ≡ true =
+                    ap (λ (y : ℕ). eqb (getD lines y noPageLine .state) way) (sym
                     (ap placeOn e)) ∙ g in
                     record {
                       stood = x;
@@ -206,7 +220,8 @@ unless-lent m out after zero e h = absurd (h refl)
 unless-lent m out after (suc n) e h = rw e
 
 module _ (d : Desk) (c : Call) where
-  pub refuses-so : (n : ℕ) (r : Outcome) (after : List ℕ) → number readBack d c ≡ n → n ≢ 0 → r ≡ refused n d → after ≡ lentAfter n (lentTo c)
+  pub refuses-so : (n : ℕ) (r : Outcome) (after : List ℕ) → number readBack d c ≡ n → n ≢ 0 → r ≡ refused n d
+      → after ≡ lentAfter n (lentTo c)
       → Allowed d c r after
   unfolding outcome lent
   refuses-so n r after e h q l =
@@ -217,7 +232,8 @@ module _ (d : Desk) (c : Call) where
       }
 
   pub accepts-so : (r : Outcome) (after : List ℕ) → number readBack d c ≡ 0
-      → r ≡ done (effectOn readBack d c .length) (effectOn readBack d c .shifts) (changed d (keyOf c) (effectOn readBack d c .page)
+      → r ≡ done (effectOn readBack d c .length) (effectOn readBack d c .shifts)
+      (changed d (keyOf c) (effectOn readBack d c .page)
       (effectOn readBack d c .learned))
       → after ≡ effectOn readBack d c .lent → Allowed d c r after
   unfolding outcome lent
@@ -228,19 +244,24 @@ abbrev left : Reply → List (List ℕ) → List (List ℕ) → List (List ℕ) 
 left x working rows learned = outcomeOf (x .answer) (partsOf (x .book) working rows learned)
 
 module _ (p : Parts) (w : Whole p) (c : Call) where
-  pub refuses : (n : ℕ) (x : Reply) (after : List ℕ) → number readBack (deskOf p) c ≡ n → n ≢ 0 → x ≡ refusedBy n (p .book)
-      → after ≡ lentAfter n (lentTo c) → Serves p c (x .answer) (partsOf (x .book) (p .working) (p .rows) (p .learned)) after
+  pub refuses : (n : ℕ) (x : Reply) (after : List ℕ) → number readBack (deskOf p) c ≡ n → n ≢ 0
+      → x ≡ refusedBy n (p .book)
+      → after ≡ lentAfter n (lentTo c) → Serves p c (x .answer) (partsOf (x .book) (p .working) (p .rows) (p .learned))
+      after
   refuses n x after e h q l =
       record {
-        allowed = refuses-so (deskOf p) c n _ after e h (ap (λ (y : Reply). left y (p .working) (p .rows) (p .learned)) q) l;
+        allowed = refuses-so (deskOf p) c n _ after e h (ap (λ (y : Reply). left y (p .working) (p .rows) (p .learned))
+            q) l;
         whole = whole-as (ap (λ (y : Reply). y .book) q) w;
       }
 
   -- by where it stands
-  pub turns-away : (s : Stands) (n : ℕ) (x : Reply) (after : List ℕ) → s ≡ Refused n → number readBack (deskOf p) c ≡ n → n ≢ 0
+  pub turns-away : (s : Stands) (n : ℕ) (x : Reply) (after : List ℕ) → s ≡ Refused n → number readBack (deskOf p) c ≡ n
+      → n ≢ 0
       → x ≡ refusedBy (numberOf s) (p .book) → after ≡ lentAfter n (lentTo c)
       → Serves p c (x .answer) (partsOf (x .book) (p .working) (p .rows) (p .learned)) after
-  turns-away s n x after f e h q l = refuses n x after e h (q ∙ ap (λ (t : Stands). refusedBy (numberOf t) (p .book)) f) l
+  turns-away s n x after f e h q l = refuses n x after e h (q ∙ ap (λ (t : Stands). refusedBy (numberOf t) (p .book))
+      f) l
 
 -- the book and the arrays that it leaves, their sizes kept
 pub accepts : (p : Parts) (c : Call) (x : Reply) (book : Book) (working rows learned : List (List ℕ)) (after : List ℕ)
@@ -248,12 +269,14 @@ pub accepts : (p : Parts) (c : Call) (x : Reply) (book : Book) (working rows lea
     → x ≡ doneBy (effectOn readBack (deskOf p) c .length) (effectOn readBack (deskOf p) c .shifts) book
     → deskOf (partsOf book working rows learned) ≡ changed (deskOf p) (keyOf c) (effectOn readBack (deskOf p) c .page)
     (effectOn readBack (deskOf p) c .learned)
-    → after ≡ effectOn readBack (deskOf p) c .lent → Serves p c (x .answer) (partsOf (x .book) working rows learned) after
+    → after ≡ effectOn readBack (deskOf p) c .lent → Serves p c (x .answer) (partsOf (x .book) working rows learned)
+    after
 accepts p c x book working rows learned after w e q a l =
     record {
       allowed = accepts-so (deskOf p) c _ after e
           (ap (λ (y : Reply). left y working rows learned) q
-          ∙ ap (λ (z : Desk). done (effectOn readBack (deskOf p) c .length) (effectOn readBack (deskOf p) c .shifts) z) a) l;
+          ∙ ap (λ (z : Desk). done (effectOn readBack (deskOf p) c .length) (effectOn readBack (deskOf p) c .shifts) z)
+          a) l;
       whole = whole-as (ap (λ (y : Reply). y .book) q) w;
     }
 
@@ -279,11 +302,14 @@ module _ (p : Parts) (w : Whole p) where
   pub stands-as : (good : Bool) (k : Key) (z : Bool) (s : Stands) → good ≡ lawful (deskOf p)
       → s ≡ standing good (lawfulKey k) z (findBy (pageSought (Used k)) (p .book .pages) 0)
       → s ≡ standing (lawful (deskOf p)) (lawfulKey k) z (pageFound (deskOf p) k)
-  stands-as good k z s g e = e ∙ ap₂ (λ (b : Bool) (f : Found). standing b (lawfulKey k) z f) g (sym (find-pages p w (Used k)))
+  stands-as good k z s g e = e ∙ ap₂ (λ (b : Bool) (f : Found). standing b (lawfulKey k) z f) g
+      (sym (find-pages p w (Used k)))
 
   -- the same with 7: how the call was told that the desk is lawful and its sizes right does not matter
-  module _ (k : Key) (fits : Bool) (way : ℕ) (t : Stands) (good small : Bool) (g : good ≡ lawful (deskOf p)) (z : small ≡ fits)
-      (e : t ≡ standingTo (p .book .pages) way (standing good (lawfulKey k) small (findBy (pageSought (Used k)) (p .book .pages) 0))) where
+  module _ (k : Key) (fits : Bool) (way : ℕ) (t : Stands) (good small : Bool) (g : good ≡ lawful (deskOf p))
+      (z : small ≡ fits)
+      (e : t ≡ standingTo (p .book .pages) way (standing good (lawfulKey k) small
+      (findBy (pageSought (Used k)) (p .book .pages) 0))) where
     abbrev first : Stands
     first = standing (lawful (deskOf p)) (lawfulKey k) fits (pageFound (deskOf p) k)
 
@@ -293,9 +319,11 @@ module _ (p : Parts) (w : Whole p) where
     was : t ≡ standingTo (p .book .pages) way first
     was =
         e ∙ ap (λ (s : Stands). standingTo (p .book .pages) way s)
-        (stands-as good k small _ g refl ∙ ap (λ (b : Bool). standing (lawful (deskOf p)) (lawfulKey k) b (pageFound (deskOf p) k)) z)
+        (stands-as good k small _ g refl ∙ ap (λ (b : Bool). standing (lawful (deskOf p)) (lawfulKey k) b
+        (pageFound (deskOf p) k)) z)
 
-    pub turned-to : (m : ℕ) → t ≡ Refused m → Plain m × ((rs : List Row) → refusal (pagedTo (deskOf p) k fits way rs) ≡ m)
+    pub turned-to : (m : ℕ) → t ≡ Refused m → Plain m × ((rs : List Row) → refusal (pagedTo (deskOf p) k fits way rs)
+        ≡ m)
     turned-to m h = away-to (deskOf p) k fits first refl (p .book .pages) states way t was m h
 
     pub standing-to : (i : ℕ) → t ≡ On i → StoodTo (deskOf p) k fits way i

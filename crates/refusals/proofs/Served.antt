@@ -1,4 +1,5 @@
--- A band on the key's open page, from the parts: the page that it meets, and the desk with the page that it leaves. Assumes nothing.
+-- A band on the key's open page, from the parts: the page that it meets, and the desk with the page that it leaves.
+-- Assumes nothing.
 use mathlib.Core.Path.{_≡_, sym, ap, ap₂, subst, _∙_}
 use Prim.Native.Nat.{ℕ}
 use mathlib.Core.Bool.{Bool}
@@ -52,14 +53,17 @@ module _ (p : Parts) (w : Whole p) (k : Key) (z : Bool) (i : ℕ) (t : Stood (de
       (ap (λ (ls : List PlaceLine). placesOf ls (p .learned)) e ∙ rw (t .found))
 
   -- an accepted band: bytes in the front of the buffer, S, the page with its table and last row
-  pub band-done : (c : Call) (b : Written) (bytes out after : List ℕ) (x : Reply) (next : Book) (working rows : List (List ℕ)) → keyOf c ≡ k
+  pub band-done : (c : Call) (b : Written) (bytes out after : List ℕ) (x : Reply) (next : Book)
+      (working rows : List (List ℕ)) → keyOf c ≡ k
       → number readBack (deskOf p) c ≡ 0 → effectOn readBack (deskOf p) c ≡ serves (pageIn p i) b bytes out
-      → PagePut (p .book) (p .working) (p .rows) i (asPage (getD (p .book .pages) i noPageLine) (b .table) (b .last)) next working rows
+      → PagePut (p .book) (p .working) (p .rows) i (asPage (getD (p .book .pages) i noPageLine) (b .table) (b .last))
+      next working rows
       → x ≡ doneBy (length bytes) (b .shifts) next → after ≡ inFront bytes out
       → Serves p c (x .answer) (partsOf (x .book) working rows (p .learned)) after
   unfolding servedPage
   band-done c b bytes out after x next working rows key e f put a l =
-      accepts p c x next working rows (p .learned) after (page-whole w put) e (a ∙ ap (λ (g : Effect). doneBy (g .length) (g .shifts) next) (sym f))
+      accepts p c x next working rows (p .learned) after (page-whole w put) e
+      (a ∙ ap (λ (g : Effect). doneBy (g .length) (g .shifts) next) (sym f))
       (served-desk next working rows (servedPage (pageIn p i) b) (put .places) (put .pages)
       ∙ ap₂ (λ (j : Key) (g : Effect). changed (deskOf p) j (g .page) (g .learned)) (sym key) (sym f))
       (l ∙ ap (λ (g : Effect). g .lent) (sym f))

@@ -40,7 +40,8 @@ pub fn early_refusal(good: bool, key: Key, sized: bool) -> u64
 
 // 12, 1 and 6, then the key's page or 2.
 pub fn page_for(good: bool, key: Key, sized: bool, pages: [PageLine; PAGES]) -> Stands
-    ensures { λ r. ⌜ (r ≡ standing good (lawfulKey key) sized (findBy (pageSought (Used key)) pages 0)) × standsBelow maxPages r ⌝ }
+    ensures { λ r. ⌜ (r ≡ standing good (lawfulKey key) sized (findBy (pageSought (Used key)) pages 0)) × standsBelow
+        maxPages r ⌝ }
 {
     let early = early_refusal(good, key, sized);
     let found = parts::find_page(pages, 0, Sought::Used(key));
@@ -71,7 +72,8 @@ pub fn page_to(
     pages: [PageLine; PAGES],
     direction: Direction,
 ) -> Stands
-    ensures { λ r. ⌜ (r ≡ standingTo pages (stateFor direction) (standing good (lawfulKey key) sized (findBy (pageSought (Used key)) pages 0)))
+    ensures { λ r. ⌜ (r ≡ standingTo pages (stateFor direction) (standing good (lawfulKey key) sized
+        (findBy (pageSought (Used key)) pages 0)))
         × standsBelow maxPages r ⌝ }
 {
     let stands = page_for(good, key, sized, pages);

@@ -34,58 +34,84 @@ use Rattle.template.specs.Window.{Slid}
 use Rattle.template.proofs.Sliding.{slid-next, slid-small, length-pels, pels-bits, pel-bit}
 use Rattle.row.specs.declared.Pel.{Pel}
 use Rattle.band.specs.Band.{qWriter, qPage}
-use Rattle.row.specs.Rows.{shiftedBy, Pelled, stillPel, decided, movedPel, bytesOf, pageOf, stageOf, through, begun, RowDone}
+use Rattle.row.specs.Rows.{shiftedBy, Pelled, stillPel, decided, movedPel, bytesOf, pageOf, stageOf, through}
+use Rattle.row.specs.Rows.{begun, RowDone}
 
 pub pelled-still : (c : Coder) (e : ℕ) → 4096 + rowOf e ≤ c .interval .width → Pelled c e true (stillPel c e)
 pelled-still c e h =
     let n : shiftedBy c e true ≡ false = le-ltb (c .interval .width - rowOf e) 4096 (omega arith) in
-    record { registers = pel-upper (rowOf e) (lift c []) h; entry = rw n; moved = sym n; quiet = λ z. refl; few = omega arith }
+    record {
+      registers = pel-upper (rowOf e) (lift c []) h;
+      entry = rw n;
+      moved = sym n;
+      quiet = λ z. refl;
+      few =
+          omega arith;
+    }
 
 pub pelled-moved : (c : Coder) (e : ℕ) (b : Bool) (u : Put) (n : ℕ) → partOf (decided e b) (c .interval) .width < 4096
-    → pel (decided e b) (lift c []) ≡ lift (u .coder) (settledOf u) → u .settled ≤ 2 → n ≡ next b e → Pelled c e b (movedPel u n)
+    → pel (decided e b) (lift c []) ≡ lift (u .coder) (settledOf u) → u .settled ≤ 2 → n ≡ next b e
+    → Pelled c e b (movedPel u n)
 pelled-moved c e b u n h r f k =
     let m : shiftedBy c e b ≡ true = lt-ltb (partOf (decided e b) (c .interval) .width) 4096 h in
     record { registers = r; entry = rw m k; moved = sym m; quiet = λ z. no-way z; few = f }
 
-pub pelled-ready : (c : Coder) (e : ℕ) (b : Bool) (v : Pel) → Ready (lift c []) → Pelled c e b v → Ready (lift (v .coder) [])
+pub pelled-ready : (c : Coder) (e : ℕ) (b : Bool) (v : Pel) → Ready (lift c []) → Pelled c e b v
+    → Ready (lift (v .coder) [])
 pelled-ready c e b v r k =
-    ready-bare (v .coder) (bytesOf v) [] (subst Ready (k .registers) (ready-pel (decided e b) (lift c []) r (record { some = row-sized e .some; small = row-sized e .small })))
+    ready-bare (v .coder) (bytesOf v) [] (subst Ready (k .registers) (ready-pel (decided e b) (lift c []) r
+    (record { some = row-sized e .some; small = row-sized e .small })))
 
-pub pelled-count : (c : Coder) (e : ℕ) (b : Bool) (v : Pel) → Pelled c e b v → v .coder .interval .count ≤ c .interval .count + 12
-pelled-count c e b v k = subst (λ (w : Registers). w .interval .count ≤ c .interval .count + 12) (k .registers) (pel-count (decided e b) (lift c []))
+pub pelled-count : (c : Coder) (e : ℕ) (b : Bool) (v : Pel) → Pelled c e b v → v .coder .interval .count ≤
+    c .interval .count + 12
+pelled-count c e b v k = subst (λ (w : Registers). w .interval .count ≤ c .interval .count + 12) (k .registers)
+    (pel-count (decided e b) (lift c []))
 
 pub pelled-lawful : (c : Coder) (e : ℕ) (b : Bool) (v : Pel) → LawfulEntry e → Pelled c e b v → LawfulEntry (v .entry)
 pelled-lawful c e b v l k =
-    subst LawfulEntry (sym (k .entry)) (Rattle.ground.proofs.Tests.by-cond LawfulEntry (shiftedBy c e b) (next b e) e (λ t. next-lawful b e l) (λ t. l))
+    subst LawfulEntry (sym (k .entry)) (Rattle.ground.proofs.Tests.by-cond LawfulEntry (shiftedBy c e b) (next b e) e
+    (λ t. next-lawful b e l) (λ t. l))
 
 -- where there was no shift, no byte was settled,
 pub pelled-quiet : (c : Coder) (e : ℕ) (b : Bool) (v : Pel) → Pelled c e b v → v .moved ≡ false → bytesOf v ≡ []
 pelled-quiet c e b v k z = ap (λ (n : ℕ). take n (v .first ∷ v .second ∷ [])) (k .quiet z)
 
 -- and a table and a buffer that were left alone are those with that entry and with those bytes
-pub pelled-kept : (c : Coder) (t out : List ℕ) (cx at : ℕ) (b : Bool) (v : Pel) → Pelled c (getD t cx 0) b v → v .moved ≡ false
+pub pelled-kept : (c : Coder) (t out : List ℕ) (cx at : ℕ) (b : Bool) (v : Pel) → Pelled c (getD t cx 0) b v
+    → v .moved ≡ false
     → (t ≡ set t cx (v .entry)) × (out ≡ stores out at (bytesOf v)) × (at ≡ at + v .settled)
 unfolding stores
 pelled-kept c t out cx at b v k z = (
-  sym (ap (set t cx) (k .entry ∙ ap (λ (s : Bool). cond s (next b (getD t cx 0)) (getD t cx 0)) (sym (k .moved) ∙ z)) ∙ set-getD t cx 0),
+  sym (ap (set t cx) (k .entry ∙ ap (λ (s : Bool). cond s (next b (getD t cx 0)) (getD t cx 0)) (sym (k .moved) ∙ z))
+      ∙ set-getD t cx 0),
   ap (stores out at) (sym (pelled-quiet c (getD t cx 0) b v k z)),
   omega (arith, k .quiet z),
 )
 
 -- the bytes before stay before
 pub lift-behind : (c : Coder) (xs : List ℕ) → lift c xs ≡ behind xs (lift c [])
-lift-behind c xs = λ i. record { interval = c .interval; until = c .until; held = c .held; settled = sym (append-nil xs) i }
+lift-behind c xs = λ i. record {
+  interval = c .interval;
+  until = c .until;
+  held = c .held;
+  settled =
+      sym (append-nil xs) i;
+}
 
-pelled-after : (c : Coder) (e : ℕ) (b : Bool) (v : Pel) (xs : List ℕ) → Pelled c e b v → pel (decided e b) (lift c xs) ≡ lift (v .coder) (xs ++ bytesOf v)
-pelled-after c e b v xs k = ap (pel (decided e b)) (lift-behind c xs) ∙ behind-pel (decided e b) xs (lift c []) ∙ ap (behind xs) (k .registers)
+pelled-after : (c : Coder) (e : ℕ) (b : Bool) (v : Pel) (xs : List ℕ) → Pelled c e b v → pel (decided e b) (lift c xs)
+    ≡ lift (v .coder) (xs ++ bytesOf v)
+pelled-after c e b v xs k = ap (pel (decided e b)) (lift-behind c xs) ∙ behind-pel (decided e b) xs (lift c [])
+    ∙ ap (behind xs) (k .registers)
 
 module _ (width : ℕ) where
   -- within the row no row is full
-  pub page-within : (table above this : List ℕ) → length this < width → (pageOf width) table above this ≡ record { table = table; above = above; this = this }
+  pub page-within : (table above this : List ℕ) → length this < width → (pageOf width) table above this
+      ≡ record { table = table; above = above; this = this }
   unfolding placed
   page-within table above this h = if-ne (length this) width _ _ (λ e. omega arith)
 
-  pub page-full : (table above this : List ℕ) → length this ≡ width → (pageOf width) table above this ≡ record { table = table; above = this; this = [] }
+  pub page-full : (table above this : List ℕ) → length this ≡ width → (pageOf width) table above this
+      ≡ record { table = table; above = this; this = [] }
   unfolding placed
   page-full table above this h = if-eq (length this) width _ _ h
 
@@ -100,7 +126,8 @@ module _ (width : ℕ) where
     abbrev b : Bool
     b = eqb p (e % 2)
 
-    taught-set : v .entry ≡ cond (shiftedBy c e b) (next b e) e → cond (shiftedBy c e b) (set table cx (next b e)) table ≡ set table cx (v .entry)
+    taught-set : v .entry ≡ cond (shiftedBy c e b) (next b e) e → cond (shiftedBy c e b) (set table cx (next b e))
+        table ≡ set table cx (v .entry)
     taught-set k = go (shiftedBy c e b) (v .entry) k
       where
         go : (t : Bool) (n : ℕ) → n ≡ cond t (next b e) e → cond t (set table cx (next b e)) table ≡ set table cx n
@@ -108,16 +135,20 @@ module _ (width : ℕ) where
         go false n k = sym (set-getD table cx 0) ∙ ap (set table cx) (sym k)
 
     pub step-within : length this < width → Pelled c e b v
-        → step (qPage width) qWriter ((stageOf width) ((pageOf width) table above this) (lift c xs)) p ≡ (stageOf width) ((pageOf width) (set table cx (v .entry)) above (this ++ (p ∷ []))) (lift (v .coder) (xs ++ bytesOf v))
+        → step (qPage width) qWriter ((stageOf width) ((pageOf width) table above this) (lift c xs)) p
+        ≡ (stageOf width) ((pageOf width) (set table cx (v .entry)) above (this ++ (p ∷ [])))
+        (lift (v .coder) (xs ++ bytesOf v))
     unfolding size sense entryAt contextOf move taught
     step-within h k =
         ap (λ (m : Page). step (qPage width) qWriter ((stageOf width) m (lift c xs)) p) (page-within table above this h)
-        ∙ ap₂ (λ (t : List ℕ) (w : Registers). (stageOf width) ((pageOf width) t above (this ++ (p ∷ []))) w) (taught-set (k .entry)) (pelled-after c e b v xs k)
+        ∙ ap₂ (λ (t : List ℕ) (w : Registers). (stageOf width) ((pageOf width) t above (this ++ (p ∷ []))) w)
+        (taught-set (k .entry)) (pelled-after c e b v xs k)
 
   module _ (above row t₀ : List ℕ) (c₀ : Coder) (out₀ : List ℕ) (at₀ : ℕ) where
     pub record RowAt (t : List ℕ) (c : Coder) (w : Window) (out : List ℕ) (at x : ℕ) : Type 0 where
       pub settled : List ℕ
-      pub stage : (through width) (begun width above row t₀ c₀ out₀ at₀) (pelsTo row x) ≡ (stageOf width) ((pageOf width) t above (pelsTo row x)) (lift c settled)
+      pub stage : (through width) (begun width above row t₀ c₀ out₀ at₀) (pelsTo row x) ≡ (stageOf width)
+          ((pageOf width) t above (pelsTo row x)) (lift c settled)
       pub stored : out ≡ stores out₀ at₀ settled
       pub place : at ≡ at₀ + length settled
       pub few : length settled ≤ 2 * x
@@ -130,72 +161,106 @@ module _ (width : ℕ) where
     pub row-start : (w : Window) → Slid above [] 0 w → LawfulTable t₀ → Ready (lift c₀ []) → RowAt t₀ c₀ w out₀ at₀ 0
     unfolding pelsTo after stores
     row-start w s l r =
-        record { settled = []; stage = refl; stored = refl; place = omega arith; few = omega arith; slid = s; lawful = l; ready = r; count = omega arith; passed = omega arith }
+        record {
+          settled = [];
+          stage = refl;
+          stored = refl;
+          place = omega arith;
+          few = omega arith;
+          slid = s;
+          lawful =
+              l;
+          ready = r;
+          count = omega arith;
+          passed = omega arith;
+        }
 
     pub few-bytes : (v : Pel) → v .settled ≤ 2 → length (bytesOf v) ≡ v .settled
     few-bytes v h = length-take (v .settled) (v .first ∷ v .second ∷ []) ∙ omega arith
 
     -- the window one place on
     slides : (w w′ : Window) (x p : ℕ) → Slid above (pelsTo row x) x w → ((y : ℕ) → getD above y 0 ≤ 1) → p ≤ 1
-        → w′ .above ≡ (2 * w .above + getD above (x + 3) 0) % 32 → w′ .this ≡ (2 * w .this + p) % 4 → Slid above (pelsTo row x ++ (p ∷ [])) (suc x) w′
+        → w′ .above ≡ (2 * w .above + getD above (x + 3) 0) % 32 → w′ .this ≡ (2 * w .this + p) % 4
+        → Slid above (pelsTo row x ++ (p ∷ [])) (suc x) w′
     slides w w′ x p s b h wa wt =
         let l : length (pelsTo row x) ≡ x = length-pels row x in
-        let n = subst (λ (k : ℕ). Slid above (pelsTo row x ++ (p ∷ [])) (suc k) (record { above = (2 * w .above + getD above (k + 3) 0) % 32; this = (2 * w .this + p) % 4 })) l
-        (slid-next above (pelsTo row x) p w b (pels-bits row x) h (subst (λ (k : ℕ). Slid above (pelsTo row x) k w) (sym l) s)) in
+        let n = subst (λ (k : ℕ). Slid above (pelsTo row x ++ (p ∷ [])) (suc k)
+        (record { above = (2 * w .above + getD above (k + 3) 0) % 32; this = (2 * w .this + p) % 4 })) l
+        (slid-next above (pelsTo row x) p w b (pels-bits row x) h (subst (λ (k : ℕ). Slid above (pelsTo row x) k w)
+        (sym l) s)) in
         record { five = wa ∙ n .five; two = wt ∙ n .two }
 
     -- a pel p more, in the context cx
-    module _ (t : List ℕ) (c : Coder) (w : Window) (out : List ℕ) (at x : ℕ) (v : Pel) (r : RowAt t c w out at x) (h : x < width) where
+    module _ (t : List ℕ) (c : Coder) (w : Window) (out : List ℕ) (at x : ℕ) (v : Pel) (r : RowAt t c w out at x)
+        (h : x < width) where
       abbrev this : List ℕ
       this = pelsTo row x
 
       again-stage : (cx p : ℕ) → cx ≡ context above this x → Pelled c (getD t cx 0) (eqb p (getD t cx 0 % 2)) v
-          → (through width) (begun width above row t₀ c₀ out₀ at₀) (this ++ (p ∷ [])) ≡ (stageOf width) ((pageOf width) (set t cx (v .entry)) above (this ++ (p ∷ []))) (lift (v .coder) (r .settled ++ bytesOf v))
+          → (through width) (begun width above row t₀ c₀ out₀ at₀) (this ++ (p ∷ [])) ≡ (stageOf width)
+          ((pageOf width) (set t cx (v .entry)) above (this ++ (p ∷ [])))
+          (lift (v .coder) (r .settled ++ bytesOf v))
       unfolding after
       again-stage cx p ec k =
           let l : length this ≡ x = length-pels row x in
           let ec′ : cx ≡ context above this (length this) = ec ∙ ap (context above this) (sym l) in
-          after-append (qPage width) qWriter this (p ∷ []) (begun width above row t₀ c₀ out₀ at₀) ∙ ap (λ (s : Stage (qPage width) qWriter). step (qPage width) qWriter s p) (r .stage)
-          ∙ step-within t above this c (r .settled) p v (omega arith) (subst (λ (z : ℕ). Pelled c (getD t z 0) (eqb p (getD t z 0 % 2)) v) ec′ k)
-          ∙ ap (λ (z : ℕ). (stageOf width) ((pageOf width) (set t z (v .entry)) above (this ++ (p ∷ []))) (lift (v .coder) (r .settled ++ bytesOf v))) (sym ec′)
+          after-append (qPage width) qWriter this (p ∷ []) (begun width above row t₀ c₀ out₀ at₀)
+          ∙ ap (λ (s : Stage (qPage width) qWriter). step (qPage width) qWriter s p) (r .stage)
+          ∙ step-within t above this c (r .settled) p v (omega arith)
+          (subst (λ (z : ℕ). Pelled c (getD t z 0) (eqb p (getD t z 0 % 2)) v) ec′ k)
+          ∙ ap (λ (z : ℕ). (stageOf width) ((pageOf width) (set t z (v .entry)) above (this ++ (p ∷ [])))
+          (lift (v .coder) (r .settled ++ bytesOf v))) (sym ec′)
 
       pub row-again : (cx p : ℕ) (t′ : List ℕ) (w′ : Window) (out′ : List ℕ) (at′ : ℕ) → t′ ≡ set t cx (v .entry)
-          → ((y : ℕ) → getD above y 0 ≤ 1) → cx ≡ context above this x → p ≡ pelAt row x → Pelled c (getD t cx 0) (eqb p (getD t cx 0 % 2)) v
+          → ((y : ℕ) → getD above y 0 ≤ 1) → cx ≡ context above this x → p ≡ pelAt row x
+          → Pelled c (getD t cx 0) (eqb p (getD t cx 0 % 2)) v
           → w′ .above ≡ (2 * w .above + getD above (x + 3) 0) % 32 → w′ .this ≡ (2 * w .this + p) % 4
           → out′ ≡ stores out at (bytesOf v) → at′ ≡ at + v .settled
           → RowAt t′ (v .coder) w′ out′ at′ (suc x)
       unfolding pelsTo
       row-again cx p t′ w′ out′ at′ et b ec ep k wa wt eo ea =
           let n : length (bytesOf v) ≡ v .settled = few-bytes v (k .few) in
-          let m : length (r .settled ++ bytesOf v) ≡ length (r .settled) + length (bytesOf v) = length-append (r .settled) (bytesOf v) in
+          let m : length (r .settled ++ bytesOf v) ≡ length (r .settled) + length (bytesOf v) =
+          length-append (r .settled) (bytesOf v) in
           subst (λ (z : List ℕ). RowAt z (v .coder) w′ out′ at′ (suc x)) (sym et)
           (record {
             settled = r .settled ++ bytesOf v;
-            stage = subst (λ (z : ℕ). (through width) (begun width above row t₀ c₀ out₀ at₀) (this ++ (z ∷ [])) ≡ (stageOf width) ((pageOf width) (set t cx (v .entry)) above (this ++ (z ∷ []))) (lift (v .coder) (r .settled ++ bytesOf v))) ep (again-stage cx p ec k);
-            stored = eo ∙ ap₂ (λ (o : List ℕ) (a : ℕ). stores o a (bytesOf v)) (r .stored) (r .place) ∙ stores-append out₀ at₀ (r .settled) (bytesOf v);
+            stage = subst (λ (z : ℕ). (through width) (begun width above row t₀ c₀ out₀ at₀) (this ++ (z ∷ []))
+                ≡ (stageOf width) ((pageOf width) (set t cx (v .entry)) above (this ++ (z ∷ [])))
+                (lift (v .coder) (r .settled ++ bytesOf v))) ep (again-stage cx p ec k);
+            stored = eo ∙ ap₂ (λ (o : List ℕ) (a : ℕ). stores o a (bytesOf v)) (r .stored) (r .place) ∙ stores-append
+                out₀ at₀ (r .settled) (bytesOf v);
             place = omega (arith, r .place);
             few = omega (arith, r .few, k .few);
-            slid = subst (λ (z : ℕ). Slid above (this ++ (z ∷ [])) (suc x) w′) ep (slides w w′ x p (r .slid) b (subst (λ (z : ℕ). z ≤ 1) (sym ep) (pel-bit row x)) wa wt);
-            lawful = set-lawful t cx (v .entry) (r .lawful) (pelled-lawful c (getD t cx 0) (eqb p (getD t cx 0 % 2)) v (r .lawful cx) k);
+            slid = subst (λ (z : ℕ). Slid above (this ++ (z ∷ [])) (suc x) w′) ep
+                (slides w w′ x p (r .slid) b (subst (λ (z : ℕ). z ≤ 1) (sym ep) (pel-bit row x)) wa wt);
+            lawful = set-lawful t cx (v .entry) (r .lawful) (pelled-lawful c (getD t cx 0) (eqb p (getD t cx 0 % 2)) v
+                (r .lawful cx) k);
             ready = pelled-ready c (getD t cx 0) (eqb p (getD t cx 0 % 2)) v (r .ready) k;
             count = omega (arith, r .count, pelled-count c (getD t cx 0) (eqb p (getD t cx 0 % 2)) v k);
             passed = h;
           })
 
     -- the numbers in the loop
-    pub row-window : (t : List ℕ) (c : Coder) (w : Window) (out : List ℕ) (at x : ℕ) → ((y : ℕ) → getD above y 0 ≤ 1) → RowAt t c w out at x → (w .above < 32) × (w .this < 4)
+    pub row-window : (t : List ℕ) (c : Coder) (w : Window) (out : List ℕ) (at x : ℕ) → ((y : ℕ) → getD above y 0 ≤ 1)
+        → RowAt t c w out at x → (w .above < 32) × (w .this < 4)
     row-window t c w out at x b r = slid-small above (pelsTo row x) x w b (pels-bits row x) (r .slid)
 
-    pub row-length : (t : List ℕ) (c : Coder) (w : Window) (out : List ℕ) (at x : ℕ) → RowAt t c w out at x → length out ≡ length out₀
+    pub row-length : (t : List ℕ) (c : Coder) (w : Window) (out : List ℕ) (at x : ℕ) → RowAt t c w out at x
+        → length out ≡ length out₀
     row-length t c w out at x r = ap length (r .stored) ∙ length-stores out₀ at₀ (r .settled)
 
-    pub row-done : (t : List ℕ) (c : Coder) (w : Window) (out : List ℕ) (at x : ℕ) → RowAt t c w out at x → x ≡ width → (RowDone width above row t₀ c₀ out₀ at₀) t c out at
+    pub row-done : (t : List ℕ) (c : Coder) (w : Window) (out : List ℕ) (at x : ℕ) → RowAt t c w out at x → x ≡ width
+        → (RowDone width above row t₀ c₀ out₀ at₀) t c out at
     row-done t c w out at x r e =
-        let s : (through width) (begun width above row t₀ c₀ out₀ at₀) (pelsTo row width) ≡ (stageOf width) ((pageOf width) t above (pelsTo row width)) (lift c (r .settled))
-        = subst (λ (n : ℕ). (through width) (begun width above row t₀ c₀ out₀ at₀) (pelsTo row n) ≡ (stageOf width) ((pageOf width) t above (pelsTo row n)) (lift c (r .settled))) e (r .stage) in
+        let s : (through width) (begun width above row t₀ c₀ out₀ at₀) (pelsTo row width) ≡ (stageOf width)
+        ((pageOf width) t above (pelsTo row width)) (lift c (r .settled))
+        = subst (λ (n : ℕ). (through width) (begun width above row t₀ c₀ out₀ at₀) (pelsTo row n) ≡ (stageOf width)
+        ((pageOf width) t above (pelsTo row n)) (lift c (r .settled))) e (r .stage) in
         record {
           settled = r .settled;
-          stage = s ∙ ap (λ (m : Page). (stageOf width) m (lift c (r .settled))) (page-full t above (pelsTo row width) (length-pels row width));
+          stage = s ∙ ap (λ (m : Page). (stageOf width) m (lift c (r .settled))) (page-full t above (pelsTo row width)
+              (length-pels row width));
           stored = r .stored;
           place = r .place;
           few = omega (arith, r .few);

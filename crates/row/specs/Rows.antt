@@ -44,7 +44,15 @@ stillPel c e = record { coder = stillBy (rowOf e) c; entry = e; moved = false; s
 
 -- a pel that shifts, from what the octets say of it
 abbrev pub movedPel : Put → ℕ → Pel
-movedPel u n = record { coder = u .coder; entry = n; moved = true; settled = u .settled; first = u .first; second = u .second }
+movedPel u n = record {
+  coder = u .coder;
+  entry = n;
+  moved = true;
+  settled = u .settled;
+  first = u .first;
+  second =
+      u .second;
+}
 
 -- ---- a row
 module _ (width : ℕ) where
@@ -65,7 +73,8 @@ module _ (width : ℕ) where
     -- the whole row
     pub record RowDone (t : List ℕ) (c : Coder) (out : List ℕ) (at : ℕ) : Type 0 where
       pub settled : List ℕ
-      pub stage : through begun (pelsTo row width) ≡ stageOf (record { table = t; above = pelsTo row width; this = [] }) (lift c settled)
+      pub stage : through begun (pelsTo row width) ≡ stageOf
+          (record { table = t; above = pelsTo row width; this = [] }) (lift c settled)
       pub stored : out ≡ stores out₀ at₀ settled
       pub place : at ≡ at₀ + length settled
       pub few : length settled ≤ 2 * width

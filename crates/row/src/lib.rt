@@ -70,7 +70,8 @@ pub fn moved_pel(v: Put, entry: u8) -> Pel
     }
 }
 
-// One pel in the context whose entry is e: the expected one, or the other. Each has its own way, so that neither asks again which it is.
+// One pel in the context whose entry is e: the expected one, or the other. Each has its own way, so that neither asks
+// again which it is.
 fn put_pel(coder: Coder, e: u8, expected: bool) -> Pel
     requires { ⌜ Ready (lift coder []) × LawfulEntry e × (coder .interval .count < maxShifts) ⌝ }
     ensures { λ r. ⌜ Pelled coder e expected r ⌝ }
@@ -87,7 +88,8 @@ fn put_pel(coder: Coder, e: u8, expected: bool) -> Pel
     moved_pel(v, estimate::next_entry(e, false))
 }
 
-// Whether a white run may begin: context 0, which expects white and has learned it so well that the next pels hardly shift, in a row that is
+// Whether a white run may begin: context 0, which expects white and has learned it so well that the next pels hardly
+// shift, in a row that is
 // wide enough to be looked along.
 pub fn starts_run(white: u8, cx: usize, p: u8, width: usize) -> bool
     requires { ⌜ p ≤ 1 ⌝ }
@@ -122,7 +124,8 @@ pub fn write_row(row: &[u8], above: &[u8], width: usize, start: Run, out: &mut [
     requires { ⌜ (width ≤ maxWidth) × (width ≤ 8 * length (now row)) × (width ≤ 8 * length (now above)) × (1 ≤ width)
         × LawfulTable (start .table .entries) × Ready (lift (start .coder) [])
         × (start .coder .interval .count + 12 * maxWidth ≤ maxShifts) × (start .at + 2 * maxWidth ≤ farthest) ⌝ }
-    ensures { λ r. ⌜ RowDone width (pelsTo (now (above .entry)) width) (now (row .entry)) (start .table .entries) (start .coder) (now (out .entry)) (start .at) (r .table .entries) (r .coder) (now (out .exit)) (r .at) ⌝ }
+    ensures { λ r. ⌜ RowDone width (pelsTo (now (above .entry)) width) (now (row .entry)) (start .table .entries)
+        (start .coder) (now (out .entry)) (start .at) (r .table .entries) (r .coder) (now (out .exit)) (r .at) ⌝ }
 {
     let mut coder = start.coder;
     let mut table = start.table;

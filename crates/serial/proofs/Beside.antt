@@ -1,4 +1,5 @@
--- A run at the desk, beside the same run on the slots; every desk that a run from the empty desk comes to is lawful. Assumes nothing.
+-- A run at the desk, beside the same run on the slots; every desk that a run from the empty desk comes to is lawful.
+-- Assumes nothing.
 use mathlib.Core.Path.{_≡_, refl, ap, _∙_}
 use mathlib.Core.Bool.{Bool, true, false, cond, _||_}
 use mathlib.Core.List.{List, [], _∷_}
@@ -36,7 +37,8 @@ module _ (R : Reader) where
       go : Alike R (step R d c) (slotStep (bureau R) (shelves d) c) → SameRun (step R d c .desk) cs → SameRun d (c ∷ cs)
       go a ih =
           record {
-            answers = λ i. record { call = c; mark = a .mark i; output = a .output i } ∷ (ih .answers ∙ ap (λ (s : Slotted (bureau R)). slotRun
+            answers = λ i. record { call = c; mark = a .mark i; output = a .output i }
+                ∷ (ih .answers ∙ ap (λ (s : Slotted (bureau R)). slotRun
                 (bureau R) s cs) (a .desk)) i;
             ends = ih .ends ∙ ap (λ (s : Slotted (bureau R)). slotAfter (bureau R) s cs) (a .desk);
             stays = ih .stays;

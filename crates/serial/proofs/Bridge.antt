@@ -1,4 +1,5 @@
--- On a lawful desk, each call is what it does under its key alone: every call answers as the same call on the slots. Assumes nothing.
+-- On a lawful desk, each call is what it does under its key alone: every call answers as the same call on the slots.
+-- Assumes nothing.
 use mathlib.Core.Path.{_≡_, refl, sym, ap, _∙_, subst}
 use mathlib.Core.Bool.{Bool, true, false}
 use Prim.Native.Nat.{ℕ, zero, suc}
@@ -63,17 +64,21 @@ module _ (R : Reader) where
     act-is : act R c (cellOf d k) ≡ decide n₀ c (doing e) y
     unfolding act
     act-is =
-        ap (λ (u : DeskCell). decide (refusal (tests (R .finds) c (meets u))) c (doing (effect (R .finds) c (meets u))) (cellAfter (cellOf d k)
+        ap (λ (u : DeskCell). decide (refusal (tests (R .finds) c (meets u))) c (doing (effect (R .finds) c (meets u)))
+        (cellAfter (cellOf d k)
         (effect (R .finds) c (meets u) .page) (effect (R .finds) c (meets u) .learned))) (sym (under-is d s k))
         ∙ ap (λ (f : Effect). decide n₀ c (doing f) (cellAfter (cellOf d k) (f .page) (f .learned))) (l .same)
 
     -- and with the room
-    number-is : number (R .finds) d c ≡ withRoom n₀ (noSlot K Table Page (shelves d) k y) (noClassPlace K Table Page (shelves d) k y)
+    number-is : number (R .finds) d c ≡ withRoom n₀ (noSlot K Table Page (shelves d) k y)
+        (noClassPlace K Table Page (shelves d) k y)
     unfolding number
-    number-is = rw (slot-wanted d s k (e .page) (e .learned), place-wanted d s k (e .page) (e .learned)) (l .last (sound-is d k ∙ h))
+    number-is = rw (slot-wanted d s k (e .page) (e .learned), place-wanted d s k (e .page) (e .learned))
+        (l .last (sound-is d k ∙ h))
 
     by-number : (m : ℕ) → number (R .finds) d c ≡ m
-        → step R d c ≡ stepOf (unless m d (done (e .length) (e .shifts) (changed d k (e .page) (e .learned)))) (unlessLent m (lentTo c) (e .lent))
+        → step R d c ≡ stepOf (unless m d (done (e .length) (e .shifts) (changed d k (e .page) (e .learned))))
+        (unlessLent m (lentTo c) (e .lent))
     unfolding outcome lent
     by-number m f = rw f
 
@@ -81,18 +86,27 @@ module _ (R : Reader) where
     unfolding slotStep slotSettle slotAdmit decide markOf
     alike = go n₀ refl (noSlot K Table Page (shelves d) k y) refl (noClassPlace K Table Page (shelves d) k y) refl
       where
-        numbered : (m : ℕ) (p q : Bool) → n₀ ≡ m → noSlot K Table Page (shelves d) k y ≡ p → noClassPlace K Table Page (shelves d) k y ≡ q → number
+        numbered : (m : ℕ) (p q : Bool) → n₀ ≡ m → noSlot K Table Page (shelves d) k y ≡ p → noClassPlace K Table Page
+            (shelves d) k y ≡ q → number
             (R .finds) d c ≡ withRoom m p q
         numbered m p q a f g = number-is ∙ rw (a, f, g)
 
-        go : (m : ℕ) → n₀ ≡ m → (p : Bool) → noSlot K Table Page (shelves d) k y ≡ p → (q : Bool) → noClassPlace K Table Page (shelves d) k y ≡ q
+        go : (m : ℕ) → n₀ ≡ m → (p : Bool) → noSlot K Table Page (shelves d) k y ≡ p → (q : Bool)
+            → noClassPlace K Table Page (shelves d) k y ≡ q
             → Alike (step R d c) (slotStep (bureau R) (shelves d) c)
         go (suc m) a p f q g =
             rw (by-number (suc m) (numbered (suc m) p q a f g), act-is, a)
-            (record { mark = mark-refused m (subst (λ (n : ℕ). ForRoom n ≡ false) a (l .other)); output = refl; desk = refl })
-        go zero a true f q g = rw (by-number 4 (numbered 0 true q a f g), act-is, a, f) (record { mark = refl; output = refl; desk = refl })
+            (record {
+              mark = mark-refused m (subst (λ (n : ℕ). ForRoom n ≡ false) a (l .other));
+              output = refl;
+              desk =
+                  refl;
+            })
+        go zero a true f q g = rw (by-number 4 (numbered 0 true q a f g), act-is, a, f)
+            (record { mark = refl; output = refl; desk = refl })
         go zero a false f true g = rw (by-number 5 (numbered 0 false true a f g), act-is, a, f, g)
             (record { mark = refl; output = refl; desk = refl })
         go zero a false f false g =
             let z : number (R .finds) d c ≡ 0 = numbered 0 false false a f g in
-            rw (by-number 0 z, act-is, a, f, g) (record { mark = refl; output = refl; desk = call-stored R d h c z .shelved })
+            rw (by-number 0 z, act-is, a, f, g)
+            (record { mark = refl; output = refl; desk = call-stored R d h c z .shelved })

@@ -32,12 +32,15 @@ module _ (R : Reader) where
   demand3 cs =
       record {
         whole = w;
-        none-refused = run-done R (servedCalls R cs) emptyDesk (subst (AllAccepted calling) (sym again) (whole-accepted calling w));
+        none-refused = run-done R (servedCalls R cs) emptyDesk (subst (AllAccepted calling) (sym again)
+            (whole-accepted calling w));
         answers = again;
-        tables = λ k. learned-is (after R emptyDesk (servedCalls R cs)) (lawful-sound (after R emptyDesk (servedCalls R cs)) (b .stays)) k ∙ ap (λ
+        tables = λ k. learned-is (after R emptyDesk (servedCalls R cs))
+            (lawful-sound (after R emptyDesk (servedCalls R cs)) (b .stays)) k ∙ ap (λ
             (x : Cell Table Page). x .learned) (cells k)
             ∙ sym (learned-is (after R emptyDesk cs) (lawful-sound (after R emptyDesk cs) (a .stays)) k);
-        none-open = λ k. page-is (after R emptyDesk (servedCalls R cs)) (lawful-sound (after R emptyDesk (servedCalls R cs)) (b .stays)) k ∙ ap (λ
+        none-open = λ k. page-is (after R emptyDesk (servedCalls R cs))
+            (lawful-sound (after R emptyDesk (servedCalls R cs)) (b .stays)) k ∙ ap (λ
             (x : Cell Table Page). x .page) (cells k);
         order = in-order calling (run R emptyDesk cs);
         of-key = λ k. one-key calling k (run R emptyDesk cs);
@@ -54,7 +57,8 @@ module _ (R : Reader) where
       a-answers : run R emptyDesk cs ≡ slotRun (bureau R) (slots.emptyDesk (bureau R)) cs
       a-answers = a .answers ∙ ap (λ (s : Slotted (bureau R)). slotRun (bureau R) s cs) (empty-shelves R)
 
-      v : SlotServed (bureau R) (serial calling (slotRun (bureau R) (slots.emptyDesk (bureau R)) cs)) (slotAfter (bureau R) (slots.emptyDesk
+      v : SlotServed (bureau R) (serial calling (slotRun (bureau R) (slots.emptyDesk (bureau R)) cs))
+          (slotAfter (bureau R) (slots.emptyDesk
           (bureau R)) cs)
       v = slot-serialisation (bureau R) (bureau-lawful R) cs
 
@@ -67,18 +71,22 @@ module _ (R : Reader) where
       again : run R emptyDesk (servedCalls R cs) ≡ left R cs
       again =
           b .answers ∙ ap (λ (s : Slotted (bureau R)). slotRun (bureau R) s (servedCalls R cs)) (empty-shelves R)
-          ∙ subst (λ (l : List (Entry calling)). slotRun (bureau R) (slots.emptyDesk (bureau R)) (calls calling l) ≡ l) same-left (v .answers)
+          ∙ subst (λ (l : List (Entry calling)). slotRun (bureau R) (slots.emptyDesk (bureau R)) (calls calling l) ≡ l)
+          same-left (v .answers)
 
       -- at its end a run of the desk has the slots' cells
-      ended : (xs : List Call) → SameRun R emptyDesk xs → (k : Key) → cellOf (after R emptyDesk xs) k ≡ cellIn (bureau R) (slotAfter (bureau R)
+      ended : (xs : List Call) → SameRun R emptyDesk xs → (k : Key) → cellOf (after R emptyDesk xs) k ≡ cellIn
+          (bureau R) (slotAfter (bureau R)
           (slots.emptyDesk (bureau R)) xs) k
       ended xs r k =
-          ap (λ (s : Slotted (bureau R)). cellIn (bureau R) s k) (r .ends ∙ ap (λ (s : Slotted (bureau R)). slotAfter (bureau R) s xs)
+          ap (λ (s : Slotted (bureau R)). cellIn (bureau R) s k)
+          (r .ends ∙ ap (λ (s : Slotted (bureau R)). slotAfter (bureau R) s xs)
           (empty-shelves R))
 
       cells : (k : Key) → cellOf (after R emptyDesk (servedCalls R cs)) k ≡ shut (cellOf (after R emptyDesk cs) k)
       cells k =
           ended (servedCalls R cs) b k
-          ∙ subst (λ (l : List (Entry calling)). cellIn (bureau R) (slotAfter (bureau R) (slots.emptyDesk (bureau R)) (calls calling l)) k ≡ shut
+          ∙ subst (λ (l : List (Entry calling)). cellIn (bureau R) (slotAfter (bureau R) (slots.emptyDesk (bureau R))
+          (calls calling l)) k ≡ shut
           (cellIn (bureau R) (slotAfter (bureau R) (slots.emptyDesk (bureau R)) cs) k)) same-left (v .tables k)
           ∙ ap shut (sym (ended cs a k))

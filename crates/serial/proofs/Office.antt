@@ -46,7 +46,8 @@ decide (suc n) c o y = refuse (refusing (suc n) c)
 
 module _ (R : Reader) where
   unfoldable pub act : Call → DeskCell → Result Output DeskCell
-  act c x = decide (refusal (tests (R .finds) c (meets x))) c (doing (effect (R .finds) c (meets x))) (cellAfter x (effect (R .finds) c
+  act c x = decide (refusal (tests (R .finds) c (meets x))) c (doing (effect (R .finds) c (meets x)))
+      (cellAfter x (effect (R .finds) c
       (meets x) .page) (effect (R .finds) c (meets x) .learned))
 
   abbrev pub bureau : Office
@@ -70,7 +71,8 @@ module _ (R : Reader) where
       }
 
   -- ---- the law of each kind
-  decided : (n : ℕ) (c : Call) (o p : Output) (y z : DeskCell) → decide n c o y ≡ accept p z → (n ≡ 0) × (o ≡ p) × (y ≡ z)
+  decided : (n : ℕ) (c : Call) (o p : Output) (y z : DeskCell) → decide n c o y ≡ accept p z
+      → (n ≡ 0) × (o ≡ p) × (y ≡ z)
   unfolding decide
   decided zero c o p y z e = (refl, cc, cc)
   decided (suc n) c o p y z e = not-accepted e
@@ -79,7 +81,8 @@ module _ (R : Reader) where
   taught none g = no-way (sym g)
   taught (some p) g = refl
 
-  module _ (c : Call) (x : DeskCell) (o : Output) (y : DeskCell) (n : refusal (tests (R .finds) c (meets x)) ≡ 0) (p : doing (effect (R .finds) c
+  module _ (c : Call) (x : DeskCell) (o : Output) (y : DeskCell) (n : refusal (tests (R .finds) c (meets x)) ≡ 0)
+      (p : doing (effect (R .finds) c
       (meets x)) ≡ o)
       (q : cellAfter x (effect (R .finds) c (meets x) .page) (effect (R .finds) c (meets x) .learned) ≡ y) where
     abbrev e : Effect
@@ -114,4 +117,5 @@ module _ (R : Reader) where
 
   pub bureau-lawful : Laws bureau
   unfolding act
-  bureau-lawful c x o y e = let (n, p, q) = decided _ _ _ _ _ _ e in by-kind c x o y n p q (kindOf c) (kind-law (R .finds) c (meets x))
+  bureau-lawful c x o y e = let (n, p, q) = decided _ _ _ _ _ _ e in by-kind c x o y n p q (kindOf c)
+      (kind-law (R .finds) c (meets x))

@@ -32,7 +32,8 @@ module _ (R : Reader) (cs : List Call) where
 
   -- demand 3 of a run of calls from an empty desk, sentence by sentence
   pub record Demand3 : Type 0 where
-    -- one whole page at a time: an open, bands and a close of one key, directly after each other; between them only drops and looks
+    -- one whole page at a time: an open, bands and a close of one key, directly after each other; between them only
+    -- drops and looks
     pub whole : Whole calling left
     -- on a new empty desk no call is refused,
     pub none-refused : AllDone (run R emptyDesk servedCalls)
@@ -49,5 +50,6 @@ module _ (R : Reader) (cs : List Call) where
     -- the calls of a key's pages that are not struck out keep their order,
     pub own-order : (k : Key) → own calling k left ≡ own calling k (strike calling (run R emptyDesk cs))
     -- and of each key each call that is not struck out is served exactly as often as it was made
-    pub nothing-lost : (k : Key) (test : Entry calling → Bool) → count calling k test left ≡ count calling k test (strike calling
+    pub nothing-lost : (k : Key) (test : Entry calling → Bool) → count calling k test left ≡ count calling k test
+        (strike calling
         (run R emptyDesk cs))

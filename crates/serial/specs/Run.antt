@@ -14,7 +14,8 @@ use Rattle.desk.proofs.OpenPages.{key-self, key-only}
 use Rattle.desk.specs.Calls.{Call, keyOf, kindOf}
 use Rattle.desk.specs.Allowed.{outcome, lent}
 
--- ---- one call: what it answers (number, length, S), the lent buffer after it (empty where none is lent), the desk after it
+-- ---- one call: what it answers (number, length, S), the lent buffer after it (empty where none is lent), the desk
+-- after it
 pub record Step : Type 0 where
   pub answer : Answer
   pub lent : List ℕ
@@ -35,11 +36,22 @@ markOf n = cond (eqb n 0) accepted (cond (eqb n 4 || eqb n 5) crowded refused)
 
 -- the desk's calls: whose they are, and of which kind
 abbrev pub calling : Service
-calling = record { Key = Key; same = sameKey; same-self = key-self; same-only = key-only; Call = Call; Output = Output; key = keyOf; kind = kindOf }
+calling = record {
+  Key = Key;
+  same = sameKey;
+  same-self = key-self;
+  same-only = key-only;
+  Call = Call;
+  Output =
+      Output;
+  key = keyOf;
+  kind = kindOf;
+}
 
 -- a call with what it answered, and whether it was accepted
 abbrev pub entryOf : Call → Step → Entry calling
-entryOf c r = record { call = c; mark = markOf (r .answer .number); output = record { answer = r .answer; lent = r .lent } }
+entryOf c r =
+    record { call = c; mark = markOf (r .answer .number); output = record { answer = r .answer; lent = r .lent } }
 
 module _ (R : Reader) where
   -- one call at the desk d

@@ -28,7 +28,8 @@ pub view-more : (m n s : ℕ) (v : View) → m + n ≡ s → viewBy n (viewBy m 
 view-more m n s v e = λ i. record { x = z (v .x) (2 ^ v .look) i; look = v .look; last = v .last; at = v .at }
   where
     z : (x p : ℕ) → x - m * p - n * p ≡ x - s * p
-    z x p = let f : s * p ≡ (m + n) * p = ap (λ (k : ℕ). k * p) (sym e) in let g : (m + n) * p ≡ m * p + n * p = add-mul m n p in omega arith
+    z x p = let f : s * p ≡ (m + n) * p = ap (λ (k : ℕ). k * p) (sym e) in let g : (m + n) * p ≡ m * p + n * p =
+        add-mul m n p in omega arith
 
 -- no byte is sought where the width stays 1000 hex or more
 seek-none : (n : ℕ) (r : Sight) → 4096 ≤ r .width → seek n r ≡ r
@@ -40,7 +41,8 @@ seek-none (suc n) r h = if-ge (r .width) 4096 (seek n (nearer (supplied r))) r h
 abbrev pub stillTold : Coder → View → ℕ → Told
 stillTold c v e = record { expected = true; p = e % 2; view = viewBy (rowOf e) v; pel = stillPel c e }
 
-pub told-still : (c : Coder) (v : View) (code : List ℕ) (e : ℕ) → 4096 + rowOf e ≤ c .interval .width → rowOf e * 2 ^ v .look ≤ v .x
+pub told-still : (c : Coder) (v : View) (code : List ℕ) (e : ℕ) → 4096 + rowOf e ≤ c .interval .width
+    → rowOf e * 2 ^ v .look ≤ v .x
     → v .at ≤ length code → v .look ≤ 7 → v .x < 2 ^ 32 → ReadPel c v code e (stillTold c v e)
 unfolding decide
 told-still c v code e wide t a l s =

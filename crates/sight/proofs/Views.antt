@@ -30,14 +30,17 @@ use Rattle.sight.specs.Views.{seeks, sightOf, ReadPel}
 
 supplied-width : (r : Sight) → supplied r .width ≡ r .width
 unfolding supplied
-supplied-width r = Rattle.ground.proofs.Tests.by-cond (λ (v : Sight). v .width ≡ r .width) (eqb (r .look) 0) (more r) r (λ t. refl) (λ t. refl)
+supplied-width r = Rattle.ground.proofs.Tests.by-cond (λ (v : Sight). v .width ≡ r .width) (eqb (r .look) 0) (more r) r
+    (λ t. refl) (λ t. refl)
 
 pub seek-seeks : (n : ℕ) (r : Sight) → seek n r ≡ seeks (doublings n (r .width)) r
 unfolding seek doublings seeks
 seek-seeks zero r = refl
 seek-seeks (suc n) r =
-    by-cond₂ (λ (v : Sight) (k : ℕ). v ≡ seeks k r) (ltb (r .width) 4096) (seek n (nearer (supplied r))) r (suc (doublings n (2 * r .width))) 0
-    (λ t. seek-seeks n (nearer (supplied r)) ∙ ap (λ (a : ℕ). seeks (doublings n (2 * a)) (nearer (supplied r))) (supplied-width r)) (λ t. refl)
+    by-cond₂ (λ (v : Sight) (k : ℕ). v ≡ seeks k r) (ltb (r .width) 4096) (seek n (nearer (supplied r))) r
+    (suc (doublings n (2 * r .width))) 0
+    (λ t. seek-seeks n (nearer (supplied r)) ∙ ap (λ (a : ℕ). seeks (doublings n (2 * a)) (nearer (supplied r)))
+    (supplied-width r)) (λ t. refl)
 
 supplied-some : (r : Sight) → r .look ≢ 0 → supplied r ≡ r
 unfolding supplied
@@ -48,12 +51,28 @@ unfolding supplied
 supplied-none r h = if-eq (r .look) 0 (more r) r h
 
 -- within what is in sight
-pub seeks-few : (k : ℕ) (r : Sight) → k ≤ r .look → seeks k r ≡ record { width = r .width * 2 ^ k; x = r .x; look = r .look - k; last = r .last; unread = r .unread }
+pub seeks-few : (k : ℕ) (r : Sight) → k ≤ r .look
+    → seeks k r ≡ record { width = r .width * 2 ^ k; x = r .x; look = r .look - k; last = r .last; unread = r .unread }
 unfolding seeks
-seeks-few zero r h = λ i. record { width = sym (mul-one (r .width)) i; x = r .x; look = sym (sub-zero (r .look)) i; last = r .last; unread = r .unread }
+seeks-few zero r h =
+    λ i. record {
+      width = sym (mul-one (r .width)) i;
+      x = r .x;
+      look = sym (sub-zero (r .look)) i;
+      last =
+          r .last;
+      unread = r .unread;
+    }
 seeks-few (suc k) r h =
     ap (λ (v : Sight). seeks k (nearer v)) (supplied-some r (λ e. omega arith)) ∙ seeks-few k (nearer r) (omega arith)
-    ∙ (λ i. record { width = twice (r .width) i; x = r .x; look = less (r .look) i; last = r .last; unread = r .unread })
+    ∙ (λ i. record {
+      width = twice (r .width) i;
+      x = r .x;
+      look = less (r .look) i;
+      last = r .last;
+      unread =
+          r .unread;
+    })
   where
     twice : (a : ℕ) → 2 * a * 2 ^ k ≡ a * 2 ^ suc k
     twice a = let e : a * 2 ^ suc k ≡ a * (2 * 2 ^ k) = ap (λ (y : ℕ). a * y) (pow-succ' 2 k) in omega arith
@@ -71,20 +90,31 @@ seeks-more zero l r e h = absurd (omega arith)
 seeks-more (suc k) zero r e h =
     ap (λ (v : Sight). seeks k (nearer v)) (supplied-none r e ∙ sym (supplied-some (more r) (more-some r)))
 seeks-more (suc k) (suc l) r e h =
-    ap (λ (v : Sight). seeks k (nearer v)) (supplied-some r (λ z. omega arith)) ∙ seeks-more k l (nearer r) (omega arith) (omega arith)
-    ∙ ap (seeks k) (λ i. record { width = 2 * r .width; x = (r .x * 2 ^ bits (r .last) + getD (r .unread) 0 0) % 2 ^ 32; look = swap (r .look) (bits (r .last)) e i; last = getD (r .unread) 0 0; unread = drop 1 (r .unread) })
+    ap (λ (v : Sight). seeks k (nearer v)) (supplied-some r (λ z. omega arith)) ∙ seeks-more k l (nearer r)
+    (omega arith) (omega arith)
+    ∙ ap (seeks k)
+    (λ i. record {
+      width = 2 * r .width;
+      x = (r .x * 2 ^ bits (r .last) + getD (r .unread) 0 0) % 2 ^ 32;
+      look =
+          swap (r .look) (bits (r .last)) e i;
+      last = getD (r .unread) 0 0;
+      unread = drop 1 (r .unread);
+    })
     ∙ sym (ap (λ (v : Sight). seeks k (nearer v)) (supplied-some (more r) (more-some r)))
   where
     swap : (a b : ℕ) → a ≡ suc l → a - 1 + b ≡ a + b - 1
     swap a b e = omega arith
 
 -- ---- the widths of writer and reader are one
-shifts-width : (n : ℕ) (w : Registers) (i : Interval) → w .interval .width ≡ i .width → shifts n w .interval .width ≡ grown n i .width
+shifts-width : (n : ℕ) (w : Registers) (i : Interval) → w .interval .width ≡ i .width → shifts n w .interval .width
+    ≡ grown n i .width
 unfolding shifts grown
 shifts-width zero w i e = e
 shifts-width (suc n) w i e =
     subst (λ (k : ℕ). shifts (suc n) w .interval .width ≡ cond (ltb k 4096) (grown n (doubled i)) i .width) e
-    (by-cond₂ (λ (v : Registers) (j : Interval). v .interval .width ≡ j .width) (ltb (w .interval .width) 4096) (shifts n (due (double w))) w (grown n (doubled i)) i
+    (by-cond₂ (λ (v : Registers) (j : Interval). v .interval .width ≡ j .width) (ltb (w .interval .width) 4096)
+    (shifts n (due (double w))) w (grown n (doubled i)) i
     (λ t. shifts-width n (due (double w)) (doubled i) (due-width (double w) ∙ ap (λ (k : ℕ). 2 * k) e)) (λ t. e))
 
 seek-width : (n : ℕ) (r : Sight) (i : Interval) → r .width ≡ i .width → seek n r .width ≡ grown n i .width
@@ -92,14 +122,17 @@ unfolding seek grown
 seek-width zero r i e = e
 seek-width (suc n) r i e =
     subst (λ (k : ℕ). seek (suc n) r .width ≡ cond (ltb k 4096) (grown n (doubled i)) i .width) e
-    (by-cond₂ (λ (v : Sight) (j : Interval). v .width ≡ j .width) (ltb (r .width) 4096) (seek n (nearer (supplied r))) r (grown n (doubled i)) i
+    (by-cond₂ (λ (v : Sight) (j : Interval). v .width ≡ j .width) (ltb (r .width) 4096) (seek n (nearer (supplied r)))
+    r (grown n (doubled i)) i
     (λ t. seek-width n (nearer (supplied r)) (doubled i) (ap (λ (k : ℕ). 2 * k) (supplied-width r ∙ e))) (λ t. e))
 
-pub taken-width : (q : ℕ) (b : Bool) (r : Sight) (i : Interval) → r .width ≡ i .width → taken q b r .width ≡ partOf (decision q b) i .width
+pub taken-width : (q : ℕ) (b : Bool) (r : Sight) (i : Interval) → r .width ≡ i .width → taken q b r .width ≡ partOf
+    (decision q b) i .width
 taken-width q true r i e = ap (λ (k : ℕ). k - q) e
 taken-width q false r i e = refl
 
-pub same-width : (q : ℕ) (b : Bool) (r : Sight) (w : Registers) → r .width ≡ w .interval .width → seek 12 (taken q b r) .width ≡ pel (decision q b) w .interval .width
+pub same-width : (q : ℕ) (b : Bool) (r : Sight) (w : Registers) → r .width ≡ w .interval .width
+    → seek 12 (taken q b r) .width ≡ pel (decision q b) w .interval .width
 same-width q b r w e =
     seek-width 12 (taken q b r) (partOf (decision q b) (w .interval)) (taken-width q b r (w .interval) e)
     ∙ sym (shifts-width 12 (part (decision q b) w) (partOf (decision q b) (w .interval)) refl)
@@ -115,17 +148,35 @@ power-small b n p e f =
 pub product-small : (x p y m : ℕ) → x ≤ m → p ≤ 256 → y ≤ 255 → x * p + y ≤ m * 256 + 255
 product-small x p y m h k l = omega (arith, mul-le-mul h k)
 
-pub view-more : (v : View) (w byte at n p : ℕ) (code : List ℕ) → byte ≡ getD (drop (v .at) code) 0 0 → drop at code ≡ drop 1 (drop (v .at) code) → n ≡ bits (v .last) → p ≡ 2 ^ n
-    → sightOf (record { x = (v .x * p + byte) % 4294967296; look = v .look + n; last = byte; at = at }) w code ≡ more (sightOf v w code)
+pub view-more : (v : View) (w byte at n p : ℕ) (code : List ℕ) → byte ≡ getD (drop (v .at) code) 0 0
+    → drop at code ≡ drop 1 (drop (v .at) code) → n ≡ bits (v .last) → p ≡ 2 ^ n
+    → sightOf (record { x = (v .x * p + byte) % 4294967296; look = v .look + n; last = byte; at = at }) w code ≡ more
+    (sightOf v w code)
 view-more v w byte at n p code b d e f =
-    λ i. record { width = w; x = (v .x * (f ∙ ap (λ (k : ℕ). 2 ^ k) e) i + b i) % 4294967296; look = v .look + e i; last = b i; unread = d i }
+    λ i. record {
+      width = w;
+      x = (v .x * (f ∙ ap (λ (k : ℕ). 2 ^ k) e) i + b i) % 4294967296;
+      look =
+          v .look + e i;
+      last = b i;
+      unread = d i;
+    }
 
-pub view-start : (a b at at′ n p : ℕ) (code : List ℕ) → a ≡ getD (drop 0 code) 0 0 → drop at code ≡ drop 1 (drop 0 code) → b ≡ getD (drop at code) 0 0 → drop at′ code ≡ drop 1 (drop at code)
-    → n ≡ bits a → p ≡ 2 ^ n → sightOf (record { x = a * p + b; look = n - 4; last = b; at = at′ }) 4096 code ≡ opened code
+pub view-start : (a b at at′ n p : ℕ) (code : List ℕ) → a ≡ getD (drop 0 code) 0 0
+    → drop at code ≡ drop 1 (drop 0 code) → b ≡ getD (drop at code) 0 0 → drop at′ code ≡ drop 1 (drop at code)
+    → n ≡ bits a → p ≡ 2 ^ n → sightOf (record { x = a * p + b; look = n - 4; last = b; at = at′ }) 4096 code
+    ≡ opened code
 view-start a b at at′ n p code ea da eb db en ep =
     let k : n ≡ bits (getD code 0 0) = en ∙ ap bits ea in
     let m : b ≡ getD code 1 0 = eb ∙ ap (λ (l : List ℕ). getD l 0 0) da ∙ getD-drop 1 code 0 0 in
-    λ i. record { width = 4096; x = ea i * (ep ∙ ap (λ (y : ℕ). 2 ^ y) k) i + m i; look = k i - 4; last = m i; unread = (db ∙ ap (λ (l : List ℕ). drop 1 l) da ∙ drop-drop 1 1 code) i }
+    λ i. record {
+      width = 4096;
+      x = ea i * (ep ∙ ap (λ (y : ℕ). 2 ^ y) k) i + m i;
+      look = k i - 4;
+      last = m i;
+      unread =
+          (db ∙ ap (λ (l : List ℕ). drop 1 l) da ∙ drop-drop 1 1 code) i;
+    }
 
 pub told-bit : (c : Coder) (v : View) (code : List ℕ) (e : ℕ) (t : Told) → ReadPel c v code e t → t .p ≤ 1
 told-bit c v code e t k = subst (λ (z : ℕ). z ≤ 1) (sym (k .told)) (pelOf-bit (e % 2) (t .expected) (omega arith))
@@ -144,16 +195,20 @@ module _ (c : Coder) (v : View) (code : List ℕ) (e : ℕ) (b : Bool) (o : ℕ)
   abbrev part′ : Sight
   part′ = taken (rowOf e) b seen
 
-  pub told-moved : decide (rowOf e) seen ≡ b → o ≡ pelOf (e % 2) b → Pelled c e b u → part′ ≡ sightOf v₁ (part′ .width) code
+  pub told-moved : decide (rowOf e) seen ≡ b → o ≡ pelOf (e % 2) b → Pelled c e b u
+      → part′ ≡ sightOf v₁ (part′ .width) code
       → k ≡ doublings 12 (partOf (decision (rowOf e) b) (c .interval) .width)
-      → ((w : ℕ) → sightOf v₂ (w * 2 ^ k) code ≡ seeks k (sightOf v₁ w code)) → v₂ .at ≤ length code → v₂ .look ≤ 7 → v₂ .x < 2 ^ 32
+      → ((w : ℕ) → sightOf v₂ (w * 2 ^ k) code ≡ seeks k (sightOf v₁ w code)) → v₂ .at ≤ length code → v₂ .look ≤ 7
+      → v₂ .x < 2 ^ 32
       → ReadPel c v code e (record { expected = b; p = o; view = v₂; pel = u })
   told-moved d f p t n a x y z =
-      let m : doublings 12 (part′ .width) ≡ k = ap (doublings 12) (taken-width (rowOf e) b seen (c .interval) refl) ∙ sym n in
+      let m : doublings 12 (part′ .width) ≡ k = ap (doublings 12) (taken-width (rowOf e) b seen (c .interval) refl)
+      ∙ sym n in
       let s : seek 12 part′ ≡ sightOf v₂ (part′ .width * 2 ^ k) code
       = seek-seeks 12 part′ ∙ ap (λ (j : ℕ). seeks j part′) m ∙ ap (seeks k) t ∙ sym (a (part′ .width)) in
       let w : part′ .width * 2 ^ k ≡ u .coder .interval .width
-      = ap (λ (r : Sight). r .width) (sym s) ∙ same-width (rowOf e) b seen (lift c []) refl ∙ ap (λ (r : Registers). r .interval .width) (p .registers) in
+      = ap (λ (r : Sight). r .width) (sym s) ∙ same-width (rowOf e) b seen (lift c []) refl
+      ∙ ap (λ (r : Registers). r .interval .width) (p .registers) in
       record {
         asked = sym d;
         told = f;

@@ -25,7 +25,8 @@ pub record ReadPel (c : Coder) (v : View) (code : List ℕ) (e : ℕ) (t : Told)
   pub asked : t .expected ≡ decide (rowOf e) (sightOf v (c .interval .width) code)
   pub told : t .p ≡ pelOf (e % 2) (t .expected)
   pub pelled : Pelled c e (t .expected) (t .pel)
-  pub sight : sightOf (t .view) (t .pel .coder .interval .width) code ≡ seek 12 (taken (rowOf e) (t .expected) (sightOf v (c .interval .width) code))
+  pub sight : sightOf (t .view) (t .pel .coder .interval .width) code ≡ seek 12
+      (taken (rowOf e) (t .expected) (sightOf v (c .interval .width) code))
   pub within : t .view .at ≤ length code
   pub near : t .view .look ≤ 7
   pub small : t .view .x < 2 ^ 32

@@ -17,7 +17,8 @@ ghost use Rattle.sight.specs.Still.{viewBy};
 use octets::Coder;
 use row::Pel;
 
-// What is in sight of a code: its bits read so far less the low end, how many of them lie ahead, the byte last read, and where the next stands.
+// What is in sight of a code: its bits read so far less the low end, how many of them lie ahead, the byte last read,
+// and where the next stands.
 pub struct View {
     pub x: u64,
     pub look: u64,
@@ -42,7 +43,9 @@ pub struct Told {
 // The byte at a place; past the end it is 0.
 pub fn fetch(code: &[u8], at: usize) -> Fetched
     requires { ⌜ at ≤ length (now code) ⌝ }
-    ensures { λ r. ⌜ (r .byte ≡ getD (drop at (now (code .entry))) 0 0) × (r .byte ≤ 255) × (drop (r .at) (now (code .entry)) ≡ drop 1 (drop at (now (code .entry)))) × (r .at ≤ length (now (code .entry))) ⌝ }
+    ensures { λ r. ⌜ (r .byte ≡ getD (drop at (now (code .entry))) 0 0) × (r .byte ≤ 255)
+        × (drop (r .at) (now (code .entry)) ≡ drop 1 (drop at (now (code .entry))))
+        × (r .at ≤ length (now (code .entry))) ⌝ }
 {
     if at < code.len() {
         let b = wide(code[at]);
@@ -73,7 +76,8 @@ pub fn bits_after(b: u64) -> u64
 impl View {
     // The first two bytes.
     pub fn start(code: &[u8]) -> Self
-        ensures { λ r. ⌜ (sightOf r 4096 (now (code .entry)) ≡ opened (now (code .entry))) × (r .at ≤ length (now (code .entry))) × (r .look ≤ 7) × (r .x < 2 ^ 32) × (r .last ≤ 255) ⌝ }
+        ensures { λ r. ⌜ (sightOf r 4096 (now (code .entry)) ≡ opened (now (code .entry)))
+            × (r .at ≤ length (now (code .entry))) × (r .look ≤ 7) × (r .x < 2 ^ 32) × (r .last ≤ 255) ⌝ }
     {
         let a = fetch(code, 0);
         let b = fetch(code, a.at);
@@ -89,7 +93,8 @@ impl View {
     // One byte more. The remainder does nothing on a code that was written; on any other it keeps x in its register.
     pub fn more(self, code: &[u8]) -> Self
         requires { ⌜ (self .at ≤ length (now code)) × (self .look ≤ 15) × (self .x < 2 ^ 32) ⌝ }
-        ensures { λ r. ⌜ ((w : ℕ) → sightOf r w (now (code .entry)) ≡ law.more (sightOf self w (now (code .entry)))) × (r .at ≤ length (now (code .entry))) × (r .x < 2 ^ 32) × (r .last ≤ 255) ⌝ }
+        ensures { λ r. ⌜ ((w : ℕ) → sightOf r w (now (code .entry)) ≡ law.more (sightOf self w (now (code .entry))))
+            × (r .at ≤ length (now (code .entry))) × (r .x < 2 ^ 32) × (r .last ≤ 255) ⌝ }
     {
         let f = fetch(code, self.at);
         let n = bits_after(self.last);
@@ -115,7 +120,8 @@ impl View {
         }
     }
 
-    // How much expected pels may take, beside a writer of that width: no shift, and all of them told by what is in sight.
+    // How much expected pels may take, beside a writer of that width: no shift, and all of them told by what is in
+    // sight.
     pub fn room(self, wide: u64) -> u64
         requires { ⌜ (0x1000 ≤ wide) × (self .look ≤ 7) ⌝ }
         ensures { λ r. ⌜ (0x1000 + r ≤ wide) × (r * 2 ^ self .look ≤ self .x) ⌝ }
@@ -128,7 +134,9 @@ impl View {
     // After k shifts: bytes are read until they reach that far.
     pub fn advance(self, code: &[u8], k: u64) -> Self
         requires { ⌜ (self .at ≤ length (now code)) × (self .look ≤ 7) × (self .x < 2 ^ 32) × (k ≤ 12) ⌝ }
-        ensures { λ r. ⌜ ((w : ℕ) → sightOf r (w * 2 ^ k) (now (code .entry)) ≡ seeks k (sightOf self w (now (code .entry)))) × (r .at ≤ length (now (code .entry))) × (r .look ≤ 7) × (r .x < 2 ^ 32) ⌝ }
+        ensures { λ r. ⌜ ((w : ℕ) → sightOf r (w * 2 ^ k) (now (code .entry)) ≡ seeks k
+            (sightOf self w (now (code .entry)))) × (r .at ≤ length (now (code .entry))) × (r .look ≤ 7)
+            × (r .x < 2 ^ 32) ⌝ }
     {
         let mut v = self;
         while v.look < k {
@@ -155,7 +163,8 @@ fn pel_told(e: u8, expected: bool) -> u8
 
 // One pel: the code tells it, and the writer codes it.
 pub fn read_pel(coder: Coder, view: View, code: &[u8], e: u8) -> Told
-    requires { ⌜ Ready (lift coder []) × LawfulEntry e × (coder .interval .count < maxShifts) × (view .at ≤ length (now code)) × (view .look ≤ 7)
+    requires { ⌜ Ready (lift coder []) × LawfulEntry e × (coder .interval .count < maxShifts)
+        × (view .at ≤ length (now code)) × (view .look ≤ 7)
         × (view .x < 2 ^ 32) ⌝ }
     ensures { λ r. ⌜ ReadPel coder view (now (code .entry)) e r ⌝ }
 {

@@ -18,17 +18,21 @@ unfolding storeAt
 store-some out zero b e = absurd (e refl)
 store-some out (suc n) b e = ap (λ (k : ℕ). set out k b) (omega arith)
 
-pub stores-append : (out : List ℕ) (at : ℕ) (xs ys : List ℕ) → stores (stores out at xs) (at + length xs) ys ≡ stores out at (xs ++ ys)
+pub stores-append : (out : List ℕ) (at : ℕ) (xs ys : List ℕ) → stores (stores out at xs) (at + length xs) ys ≡ stores
+    out at (xs ++ ys)
 unfolding stores
 stores-append out at [] ys = ap (λ (k : ℕ). stores out k ys) (add-zero at)
-stores-append out at (x ∷ xs) ys = ap (λ (k : ℕ). stores (stores (storeAt out at x) (suc at) xs) k ys) (add-suc at (length xs) ∙ sym (suc-add at (length xs))) ∙ stores-append (storeAt out at x) (suc at) xs ys
+stores-append out at (x ∷ xs) ys = ap (λ (k : ℕ). stores (stores (storeAt out at x) (suc at) xs) k ys)
+    (add-suc at (length xs) ∙ sym (suc-add at (length xs))) ∙ stores-append (storeAt out at x) (suc at) xs ys
 
 -- one byte more of a list that is stored from its front
-pub stores-next : (out₀ xs out : List ℕ) (at next i : ℕ) → i < length xs → out ≡ stores out₀ at (take i xs) → next ≡ at + i → storeAt out next (getD xs i 0) ≡ stores out₀ at (take (suc i) xs)
+pub stores-next : (out₀ xs out : List ℕ) (at next i : ℕ) → i < length xs → out ≡ stores out₀ at (take i xs)
+    → next ≡ at + i → storeAt out next (getD xs i 0) ≡ stores out₀ at (take (suc i) xs)
 unfolding stores
 stores-next out₀ xs out at next i h e f =
     let l : length (take i xs) ≡ i = length-take-le i xs (omega arith) in
-    ap₂ (λ (o : List ℕ) (n : ℕ). storeAt o n (getD xs i 0)) e (f ∙ ap (λ (k : ℕ). at + k) (sym l)) ∙ stores-append out₀ at (take i xs) (getD xs i 0 ∷ [])
+    ap₂ (λ (o : List ℕ) (n : ℕ). storeAt o n (getD xs i 0)) e (f ∙ ap (λ (k : ℕ). at + k) (sym l)) ∙ stores-append out₀
+    at (take i xs) (getD xs i 0 ∷ [])
     ∙ ap (stores out₀ at) (sym (take-suc xs i 0 h))
 
 pub length-stores : (out : List ℕ) (at : ℕ) (xs : List ℕ) → length (stores out at xs) ≡ length out

@@ -67,10 +67,12 @@ module _ (d : Desk) (k : Key) (n : ℕ) (first : n ≡ early (lawful d) (lawfulK
 
     module _ (o : isFound (pageFound d k) ≡ false) where
       pub drop-untaught : isFound (tableFound d k) ≡ false → number readBack d (drops k) ≡ 11
-      drop-untaught t = drops-on ∙ past _ _ (found-page d (pageFound d k) ∙ o) ∙ here _ _ (ap not (found-table d (tableFound d k) ∙ t))
+      drop-untaught t = drops-on ∙ past _ _ (found-page d (pageFound d k) ∙ o)
+          ∙ here _ _ (ap not (found-table d (tableFound d k) ∙ t))
 
       pub drop-end : isFound (tableFound d k) ≡ true → number readBack d (drops k) ≡ 0
-      drop-end t = drops-on ∙ past _ _ (found-page d (pageFound d k) ∙ o) ∙ past _ _ (ap not (found-table d (tableFound d k) ∙ t)) ∙ at-end
+      drop-end t = drops-on ∙ past _ _ (found-page d (pageFound d k) ∙ o)
+          ∙ past _ _ (ap not (found-table d (tableFound d k) ∙ t)) ∙ at-end
 
   module _ (out : List ℕ) where
     pub look-early : n ≢ 0 → number readBack d (looks k out) ≡ n
@@ -95,8 +97,10 @@ module _ (d : Desk) (k : Key) (n : ℕ) (first : n ≡ early (lawful d) (lawfulK
 
 -- ---- what is done
 module _ (p : Parts) (w : Whole p) (k : Key) where
-  pub drop-done : (x : Reply) (place : Found) (next : Book) (learned : List (List ℕ)) → number readBack (deskOf p) (drops k) ≡ 0
-      → place ≡ tableFound (deskOf p) k → PlacePut (p .book) (p .learned) place freePlace next learned → x ≡ doneBy 0 0 next
+  pub drop-done : (x : Reply) (place : Found) (next : Book) (learned : List (List ℕ)) → number readBack (deskOf p)
+      (drops k) ≡ 0
+      → place ≡ tableFound (deskOf p) k → PlacePut (p .book) (p .learned) place freePlace next learned
+      → x ≡ doneBy 0 0 next
       → Serves p (drops k) (x .answer) (partsOf (x .book) (p .working) (p .rows) learned) []
   unfolding effect changed pagesAfter placesAfter
   drop-done x place next learned e t q a =
@@ -105,7 +109,8 @@ module _ (p : Parts) (w : Whole p) (k : Key) where
       (ap (λ (ls : List PageLine). pagesOf ls (p .working) (p .rows)) (q .pages))
       (q .places ∙ ap (λ (f : Found). setAt f freePlace (deskOf p .places)) t)) refl
 
-  pub look-done : (out after : List ℕ) (x : Reply) (i : ℕ) → tableFound (deskOf p) k ≡ At i → number readBack (deskOf p) (looks k out) ≡ 0
+  pub look-done : (out after : List ℕ) (x : Reply) (i : ℕ) → tableFound (deskOf p) k ≡ At i
+      → number readBack (deskOf p) (looks k out) ≡ 0
       → x ≡ doneBy contexts 0 (p .book) → after ≡ inFront (getD (p .learned) i []) out
       → Serves p (looks k out) (x .answer) (partsOf (x .book) (p .working) (p .rows) (p .learned)) after
   unfolding effect changed pagesAfter placesAfter stand

@@ -27,7 +27,8 @@ pub fn forget<'a>(
     key: Key,
 ) -> Reply
     requires { ⌜ Sized (now working) (now rows) (now learned) ⌝ }
-    ensures { λ r. ⌜ Serves (partsOf book (now (working .entry)) (now (rows .entry)) (now (learned .entry))) (drops key) (r .answer)
+    ensures { λ r. ⌜ Serves (partsOf book (now (working .entry)) (now (rows .entry)) (now (learned .entry)))
+        (drops key) (r .answer)
         (partsOf (r .book) (now (working .exit)) (now (rows .exit)) (now (learned .exit))) [] ⌝ }
 {
     let good = lawful::lawful_desk(book, working, rows, learned);
@@ -71,7 +72,8 @@ pub fn look<'a, 'b>(
 ) -> Reply
     requires { ⌜ Sized (now working) (now rows) (now learned) ⌝ }
     ensures { λ r. ⌜ Serves (partsOf book (now (working .entry)) (now (rows .entry)) (now (learned .entry))) (looks key
-        (now (out .entry))) (r .answer) (partsOf (r .book) (now (working .exit)) (now (rows .exit)) (now (learned .exit))) (now (out .exit)) ⌝ }
+        (now (out .entry))) (r .answer) (partsOf (r .book) (now (working .exit)) (now (rows .exit))
+        (now (learned .exit))) (now (out .exit)) ⌝ }
 {
     let good = lawful::lawful_desk(book, working, rows, learned);
     let early = refusals::early_refusal(good, key, true);

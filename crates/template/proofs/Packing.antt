@@ -3,7 +3,8 @@
 use mathlib.Core.Path.{_≡_, refl, sym, ap, ap₂, _∙_, subst}
 use mathlib.Core.Logic.{_≢_, _⊎_, inl, inr}
 use Prim.Native.Nat.{ℕ, zero, suc, _+_, _-_, _*_, _/_, _%_, _^_, _≤_, _<_}
-use native.Mathlib.Nat.{pow-succ', div-div-eq-div-mul, div-add-mod', mul-le-mul-right, lt-of-mul-lt-mul-right, mod-eq-of-lt}
+use native.Mathlib.Nat.{pow-succ', div-div-eq-div-mul, div-add-mod', mul-le-mul-right, lt-of-mul-lt-mul-right}
+use native.Mathlib.Nat.{mod-eq-of-lt}
 use native.Mathlib.Decide.{decLt}
 use native.Mathlib.Omega.{arith}
 use mathlib.Core.List.{List, [], _∷_, _++_}
@@ -17,7 +18,8 @@ use Rattle.template.specs.Pels.{pelAt, pelsTo}
 use Rattle.template.specs.Packing.{Row}
 
 -- ---- one byte: b has zeros from bit r on; the pel p is put there. q is that bit's weight
-module _ (b p q k : ℕ) (some : 1 ≤ q) (whole : 2 * q * k ≡ 256) (top : b ≤ 255) (clear : b % (2 * q) ≡ 0) (bit : p ≤ 1) where
+module _ (b p q k : ℕ) (some : 1 ≤ q) (whole : 2 * q * k ≡ 256) (top : b ≤ 255) (clear : b % (2 * q) ≡ 0)
+    (bit : p ≤ 1) where
   abbrev m : ℕ
   m = b / (2 * q)
 
@@ -36,7 +38,8 @@ module _ (b p q k : ℕ) (some : 1 ≤ q) (whole : 2 * q * k ≡ 256) (top : b �
       ap (λ (x : ℕ). x / q % 2) e ∙ ap (λ (x : ℕ). x % 2) (digits-div (m * 2 + p) some) ∙ omega arith
 
   rest-clear : (b + p * q) % q ≡ 0
-  rest-clear = let e : b + p * q ≡ (m * 2 + p) * q + 0 = omega (arith, is) in ap (λ (x : ℕ). x % q) e ∙ digits-mod (m * 2 + p) some
+  rest-clear = let e : b + p * q ≡ (m * 2 + p) * q + 0 = omega (arith, is) in ap (λ (x : ℕ). x % q) e ∙ digits-mod
+      (m * 2 + p) some
 
   still-byte : b + p * q ≤ 255
   still-byte =
@@ -63,11 +66,18 @@ zero-at i = go (decLt i lastBytes)
 
 pub row-none : Row (replicate lastBytes 0) 0
 row-none =
-    record { size = length-replicate {A = ℕ} lastBytes 0; octets = λ i. omega (arith, zero-at i); clear = refl; zeros = λ i h. zero-at i }
+    record {
+      size = length-replicate {A = ℕ} lastBytes 0;
+      octets = λ i. omega (arith, zero-at i);
+      clear = refl;
+      zeros =
+          λ i h. zero-at i;
+    }
 
 weight-whole : (r : ℕ) → r ≤ 7 → 2 * 2 ^ (7 - r) * 2 ^ r ≡ 256
 weight-whole r h =
-    ap (λ (x : ℕ). x * 2 ^ r) (sym (pow-succ' 2 (7 - r))) ∙ sym (pow-add 2 (suc (7 - r)) r) ∙ ap (λ (x : ℕ). 2 ^ x) (eight r h)
+    ap (λ (x : ℕ). x * 2 ^ r) (sym (pow-succ' 2 (7 - r))) ∙ sym (pow-add 2 (suc (7 - r)) r) ∙ ap (λ (x : ℕ). 2 ^ x)
+    (eight r h)
   where
     eight : (r : ℕ) → r ≤ 7 → suc (7 - r) + r ≡ 8
     eight r h = omega arith
@@ -94,8 +104,10 @@ module _ (row : List ℕ) (x p : ℕ) (w : Row row x) (fits : x < maxWidth) (bit
   abbrev next : List ℕ
   next = set row i (b + p * q)
 
-  byte : Filled b p q (2 ^ r) (pow-pos (7 - r)) (weight-whole r (omega arith)) (w .octets i) (subst (λ (y : ℕ). b % y ≡ 0) (double-weight r (omega arith)) (w .clear)) bit
-  byte = filled b p q (2 ^ r) (pow-pos (7 - r)) (weight-whole r (omega arith)) (w .octets i) (subst (λ (y : ℕ). b % y ≡ 0) (double-weight r (omega arith)) (w .clear)) bit
+  byte : Filled b p q (2 ^ r) (pow-pos (7 - r)) (weight-whole r (omega arith)) (w .octets i)
+      (subst (λ (y : ℕ). b % y ≡ 0) (double-weight r (omega arith)) (w .clear)) bit
+  byte = filled b p q (2 ^ r) (pow-pos (7 - r)) (weight-whole r (omega arith)) (w .octets i)
+      (subst (λ (y : ℕ). b % y ≡ 0) (double-weight r (omega arith)) (w .clear)) bit
 
   pub byte-room : b + p * q ≤ 255
   byte-room = byte .octet
@@ -108,7 +120,8 @@ module _ (row : List ℕ) (x p : ℕ) (w : Row row x) (fits : x < maxWidth) (bit
 
   -- a higher bit of the same byte
   higher : (j : ℕ) → j < r → 2 ^ (7 - j) ≡ 2 * q * 2 ^ (r - 1 - j)
-  higher j h = ap (λ (y : ℕ). 2 ^ y) (seven j h) ∙ pow-add 2 (suc (7 - r)) (r - 1 - j) ∙ ap (λ (y : ℕ). y * 2 ^ (r - 1 - j)) (pow-succ' 2 (7 - r))
+  higher j h = ap (λ (y : ℕ). 2 ^ y) (seven j h) ∙ pow-add 2 (suc (7 - r)) (r - 1 - j)
+      ∙ ap (λ (y : ℕ). y * 2 ^ (r - 1 - j)) (pow-succ' 2 (7 - r))
     where
       seven : (j : ℕ) → j < r → 7 - j ≡ suc (7 - r) + (r - 1 - j)
       seven j h = omega arith
@@ -116,17 +129,20 @@ module _ (row : List ℕ) (x p : ℕ) (w : Row row x) (fits : x < maxWidth) (bit
   high-same : (j : ℕ) → j < r → (b + p * q) / 2 ^ (7 - j) ≡ b / 2 ^ (7 - j)
   high-same j h =
       ap (λ (y : ℕ). (b + p * q) / y) (higher j h) ∙ sym (div-div-eq-div-mul (b + p * q) (2 * q) (2 ^ (r - 1 - j)))
-      ∙ ap (λ (y : ℕ). y / 2 ^ (r - 1 - j)) (byte .high) ∙ div-div-eq-div-mul b (2 * q) (2 ^ (r - 1 - j)) ∙ ap (λ (y : ℕ). b / y) (sym (higher j h))
+      ∙ ap (λ (y : ℕ). y / 2 ^ (r - 1 - j)) (byte .high) ∙ div-div-eq-div-mul b (2 * q) (2 ^ (r - 1 - j))
+      ∙ ap (λ (y : ℕ). b / y) (sym (higher j h))
 
   -- the pels before it stay, and it is the next
   pel-before : (y : ℕ) → y < x → pelAt next y ≡ pelAt row y
   unfolding pelAt
   pel-before y h = go (same? (y / 8) i)
     where
-      go : (y / 8 ≡ i) ⊎ (y / 8 ≢ i) → getD next (y / 8) 0 / 2 ^ (7 - y % 8) % 2 ≡ getD row (y / 8) 0 / 2 ^ (7 - y % 8) % 2
+      go : (y / 8 ≡ i) ⊎ (y / 8 ≢ i) → getD next (y / 8) 0 / 2 ^ (7 - y % 8) % 2 ≡ getD row (y / 8) 0 / 2 ^
+          (7 - y % 8) % 2
       go (inl e) =
           ap (λ (z : ℕ). getD next z 0 / 2 ^ (7 - y % 8) % 2) e ∙ ap (λ (z : ℕ). z / 2 ^ (7 - y % 8) % 2) at-i
-          ∙ ap (λ (z : ℕ). z % 2) (high-same (y % 8) (omega arith)) ∙ ap (λ (z : ℕ). getD row z 0 / 2 ^ (7 - y % 8) % 2) (sym e)
+          ∙ ap (λ (z : ℕ). z % 2) (high-same (y % 8) (omega arith)) ∙ ap (λ (z : ℕ). getD row z 0 / 2 ^ (7 - y % 8)
+          % 2) (sym e)
       go (inr n) = ap (λ (z : ℕ). z / 2 ^ (7 - y % 8) % 2) (at-other (y / 8) n)
 
   pel-here : pelAt next x ≡ p
@@ -162,7 +178,8 @@ module _ (row : List ℕ) (x p : ℕ) (w : Row row x) (fits : x < maxWidth) (bit
           ap₂ (λ (y z : ℕ). getD next y 0 % 2 ^ z) e f ∙ ap (λ (y : ℕ). y % q) at-i ∙ byte .low
       go (no h) =
           let e : suc x / 8 ≡ suc i = omega arith in
-          ap (λ (y : ℕ). getD next y 0 % 2 ^ (8 - suc x % 8)) e ∙ ap (λ (y : ℕ). y % 2 ^ (8 - suc x % 8)) (at-other (suc i) (λ z. omega arith) ∙ w .zeros (suc i) (omega arith))
+          ap (λ (y : ℕ). getD next y 0 % 2 ^ (8 - suc x % 8)) e ∙ ap (λ (y : ℕ). y % 2 ^ (8 - suc x % 8))
+          (at-other (suc i) (λ z. omega arith) ∙ w .zeros (suc i) (omega arith))
           ∙ no-rest (2 ^ (8 - suc x % 8)) (pow-pos (8 - suc x % 8))
 
   pub row-next : Row next (suc x)

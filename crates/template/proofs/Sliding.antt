@@ -31,9 +31,11 @@ pels-at row (suc n) x h = go (decLt x n) (λ l. pels-at row n x l)
   where
     last : x ≡ n → getD (pelsTo row n ++ (pelAt row n ∷ [])) x 0 ≡ pelAt row x
     last e =
-        ap (λ (k : ℕ). getD (pelsTo row n ++ (pelAt row n ∷ [])) k 0) (e ∙ sym (length-pels row n)) ∙ getD-append-seam (pelsTo row n) (pelAt row n) [] 0 ∙ ap (pelAt row) (sym e)
+        ap (λ (k : ℕ). getD (pelsTo row n ++ (pelAt row n ∷ [])) k 0) (e ∙ sym (length-pels row n)) ∙ getD-append-seam
+        (pelsTo row n) (pelAt row n) [] 0 ∙ ap (pelAt row) (sym e)
 
-    go : Dec (x < n) → (x < n → getD (pelsTo row n) x 0 ≡ pelAt row x) → getD (pelsTo row n ++ (pelAt row n ∷ [])) x 0 ≡ pelAt row x
+    go : Dec (x < n) → (x < n → getD (pelsTo row n) x 0 ≡ pelAt row x) → getD (pelsTo row n ++ (pelAt row n ∷ [])) x 0
+        ≡ pelAt row x
     go (yes l) f = List·getD-append (pelsTo row n) (pelAt row n ∷ []) 0 x (omega (arith, length-pels row n)) ∙ f l
     go (no l) f = last (omega arith)
 
@@ -64,48 +66,59 @@ left-two : (row : List ℕ) (x : ℕ) → leftOf row (suc x) 2 ≡ leftOf row x 
 unfolding leftOf
 left-two row zero = refl
 left-two row (suc x) =
-    if-ge (suc (suc x)) 2 0 (getD row (suc (suc x) - 2) 0) (omega arith) ∙ ap (λ (k : ℕ). getD row k 0) (omega arith) ∙ sym (if-ge (suc x) 1 0 (getD row (suc x - 1) 0) (omega arith))
+    if-ge (suc (suc x)) 2 0 (getD row (suc (suc x) - 2) 0) (omega arith) ∙ ap (λ (k : ℕ). getD row k 0) (omega arith)
+    ∙ sym (if-ge (suc x) 1 0 (getD row (suc x - 1) 0) (omega arith))
 
 -- a pel more in the row changes nothing to its left
 left-more : (row : List ℕ) (p d : ℕ) → 1 ≤ d → leftOf (row ++ (p ∷ [])) (length row) d ≡ leftOf row (length row) d
 unfolding leftOf
-left-more row p d h = pick (ltb (length row) d) (λ t. List·getD-append row (p ∷ []) 0 (length row - d) (omega (arith, nltb→le (length row) d t)))
+left-more row p d h = pick (ltb (length row) d) (λ t. List·getD-append row (p ∷ []) 0 (length row - d)
+    (omega (arith, nltb→le (length row) d t)))
   where
     pick : (b : Bool) → (T (not b) → getD (row ++ (p ∷ [])) (length row - d) 0 ≡ getD row (length row - d) 0)
         → cond b 0 (getD (row ++ (p ∷ [])) (length row - d) 0) ≡ cond b 0 (getD row (length row - d) 0)
     pick true f = refl
     pick false f = f tt
 
-pub slid-context : (above this : List ℕ) (x : ℕ) (w : Window) → Slid above this x w → 4 * w .above + w .this ≡ context above this x
+pub slid-context : (above this : List ℕ) (x : ℕ) (w : Window) → Slid above this x w → 4 * w .above + w .this ≡ context
+    above this x
 unfolding context
 slid-context above this x w s = omega (arith, s .five, s .two)
 
-pub slid-small : (above this : List ℕ) (x : ℕ) (w : Window) → Bits above → Bits this → Slid above this x w → (w .above < 32) × (w .this < 4)
+pub slid-small : (above this : List ℕ) (x : ℕ) (w : Window) → Bits above → Bits this → Slid above this x w
+    → (w .above < 32) × (w .this < 4)
 unfolding rightOf
 slid-small above this x w a b s = (
   omega (arith, s .five, a (x + 2), a (x + 1), a (x + 0), left-bit above x 1 a, left-bit above x 2 a),
   omega (arith, s .two, left-bit this x 1 b, left-bit this x 2 b),
 )
 
-pub slid-start : (above : List ℕ) → Slid above [] 0 (record { above = getD above 2 0 + 2 * getD above 1 0 + 4 * getD above 0 0; this = 0 })
+pub slid-start : (above : List ℕ)
+    → Slid above [] 0 (record { above = getD above 2 0 + 2 * getD above 1 0 + 4 * getD above 0 0; this = 0 })
 unfolding rightOf leftOf
 slid-start above = record { five = omega arith; two = refl }
 
-pub slid-next : (above this : List ℕ) (p : ℕ) (w : Window) → Bits above → Bits this → p ≤ 1 → Slid above this (length this) w
-    → Slid above (this ++ (p ∷ [])) (suc (length this)) (record { above = (2 * w .above + getD above (length this + 3) 0) % 32; this = (2 * w .this + p) % 4 })
+pub slid-next : (above this : List ℕ) (p : ℕ) (w : Window) → Bits above → Bits this → p ≤ 1
+    → Slid above this (length this) w
+    → Slid above (this ++ (p ∷ [])) (suc (length this))
+    (record { above = (2 * w .above + getD above (length this + 3) 0) % 32; this = (2 * w .this + p) % 4 })
 unfolding rightOf
 slid-next above this p w a b h s =
     let x : ℕ = length this in
     record {
-      five = five x (s .five) (left-one above x) (left-two above x) (left-bit above x 1 a) (left-bit above x 2 a) (a (x + 0)) (a (x + 1)) (a (x + 2)) (a (x + 3));
+      five = five x (s .five) (left-one above x) (left-two above x) (left-bit above x 1 a) (left-bit above x 2 a)
+          (a (x + 0)) (a (x + 1)) (a (x + 2)) (a (x + 3));
       two = two (s .two) (left-bit this x 1 b) (left-bit this x 2 b);
     }
   where
-    five : (x : ℕ) → w .above ≡ getD above (x + 2) 0 + 2 * getD above (x + 1) 0 + 4 * getD above (x + 0) 0 + 8 * leftOf above x 1 + 16 * leftOf above x 2
-        → leftOf above (suc x) 1 ≡ getD above x 0 → leftOf above (suc x) 2 ≡ leftOf above x 1 → leftOf above x 1 ≤ 1 → leftOf above x 2 ≤ 1
+    five : (x : ℕ) → w .above ≡ getD above (x + 2) 0 + 2 * getD above (x + 1) 0 + 4 * getD above (x + 0) 0 + 8 * leftOf
+        above x 1 + 16 * leftOf above x 2
+        → leftOf above (suc x) 1 ≡ getD above x 0 → leftOf above (suc x) 2 ≡ leftOf above x 1 → leftOf above x 1 ≤ 1
+        → leftOf above x 2 ≤ 1
         → getD above (x + 0) 0 ≤ 1 → getD above (x + 1) 0 ≤ 1 → getD above (x + 2) 0 ≤ 1 → getD above (x + 3) 0 ≤ 1
         → (2 * w .above + getD above (x + 3) 0) % 32
-        ≡ getD above (suc x + 2) 0 + 2 * getD above (suc x + 1) 0 + 4 * getD above (suc x + 0) 0 + 8 * leftOf above (suc x) 1 + 16 * leftOf above (suc x) 2
+        ≡ getD above (suc x + 2) 0 + 2 * getD above (suc x + 1) 0 + 4 * getD above (suc x + 0) 0 + 8 * leftOf above
+        (suc x) 1 + 16 * leftOf above (suc x) 2
     five x e l m i j c0 c1 c2 c3 =
         let z : getD above (x + 0) 0 ≡ getD above x 0 = ap (λ (k : ℕ). getD above k 0) (omega arith) in
         let z0 : getD above (suc x + 0) 0 ≡ getD above (x + 1) 0 = ap (λ (k : ℕ). getD above k 0) (omega arith) in
@@ -119,6 +132,8 @@ slid-next above this p w a b h s =
     there : leftOf (this ++ (p ∷ [])) (suc (length this)) 2 ≡ leftOf this (length this) 1
     there = left-two (this ++ (p ∷ [])) (length this) ∙ left-more this p 1 (omega arith)
 
-    two : w .this ≡ leftOf this (length this) 1 + 2 * leftOf this (length this) 2 → leftOf this (length this) 1 ≤ 1 → leftOf this (length this) 2 ≤ 1
-        → (2 * w .this + p) % 4 ≡ leftOf (this ++ (p ∷ [])) (suc (length this)) 1 + 2 * leftOf (this ++ (p ∷ [])) (suc (length this)) 2
+    two : w .this ≡ leftOf this (length this) 1 + 2 * leftOf this (length this) 2 → leftOf this (length this) 1 ≤ 1
+        → leftOf this (length this) 2 ≤ 1
+        → (2 * w .this + p) % 4 ≡ leftOf (this ++ (p ∷ [])) (suc (length this)) 1 + 2 * leftOf (this ++ (p ∷ []))
+        (suc (length this)) 2
     two e i j = omega (arith, here, there)

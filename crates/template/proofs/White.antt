@@ -30,7 +30,8 @@ white-part row x y x′ y′ h k f = record { pels = λ z a b. f .pels z (omega 
 
 -- as far as the leading zeros of eight bytes reach, without the pels before y
 pub white-word : (row : List ℕ) (k w y : ℕ) → Word row k 8 w → 8 * k ≤ y → y < 8 * k + 64
-    → let r = 8 * k + leadingZeros 64 (bitAnd w (18446744073709551615 / 2 ^ (y - 8 * k))) in (y ≤ r) × (r ≤ 8 * k + 64) × White row y r
+    → let r = 8 * k + leadingZeros 64 (bitAnd w (18446744073709551615 / 2 ^ (y - 8 * k))) in (y ≤ r) × (r ≤ 8 * k + 64)
+    × White row y r
 white-word row k w y f l u =
     let m = zeros-more row k w (y - 8 * k) f (omega arith) in
     rw (masked w (y - 8 * k) (omega arith)) (omega arith, omega arith, record { pels = pel })
@@ -47,7 +48,8 @@ pub under-part : (above : List ℕ) (x y x′ y′ : ℕ) → x ≤ x′ → y�
 under-part above x y x′ y′ h k f = record { pels = λ z a b. f .pels z (omega arith) (omega arith) }
 
 -- up to two places before the first black pel above, or to the right edge
-pub under-white : (row : List ℕ) (width x y n : ℕ) → White row x y → ((z : ℕ) → z < n → z + 2 < width → z + 2 < y) → Under (pelsTo row width) x n
+pub under-white : (row : List ℕ) (width x y n : ℕ) → White row x y → ((z : ℕ) → z < n → z + 2 < width → z + 2 < y)
+    → Under (pelsTo row width) x n
 under-white row width x y n f g = record { pels = λ z h k. go z h k (decLt (z + 2) width) }
   where
     go : (z : ℕ) → x ≤ z → z < n → Dec (z + 2 < width) → getD (pelsTo row width) (z + 2) 0 ≡ 0
@@ -67,7 +69,8 @@ clear-later row above width x y z h f =
     }
 
 -- a window that is all white is such a one
-pub slid-white : (above this : List ℕ) (x : ℕ) (w : Window) → Slid above this x w → 4 * w .above + w .this ≡ 0 → w ≡ whiteWindow above x
+pub slid-white : (above this : List ℕ) (x : ℕ) (w : Window) → Slid above this x w → 4 * w .above + w .this ≡ 0
+    → w ≡ whiteWindow above x
 unfolding rightOf
 slid-white above this x w s h =
     let e : getD above (x + 2) 0 ≡ 0 = omega (arith, s .five) in

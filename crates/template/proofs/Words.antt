@@ -38,7 +38,8 @@ module _ (row : List ℕ) (k n w b : ℕ) (f : Word row k n w) (is : b ≡ getD 
   within : (r : ℕ) → r < 8 → (w * 2 ^ 8 + b) / 2 ^ (7 - r) % 2 ≡ b / 2 ^ (7 - r) % 2
   within r h =
       let e : suc r + (7 - r) ≡ 8 = omega arith in
-      let s : (w * 2 ^ 8 + b) % 2 ^ (suc r + (7 - r)) ≡ b = ap (λ (j : ℕ). (w * 2 ^ 8 + b) % 2 ^ j) e ∙ low w 8 {lo = b} (omega arith) in
+      let s : (w * 2 ^ 8 + b) % 2 ^ (suc r + (7 - r)) ≡ b = ap (λ (j : ℕ). (w * 2 ^ 8 + b) % 2 ^ j) e
+      ∙ low w 8 {lo = b} (omega arith) in
       sym (ap (λ (m : ℕ). m / 2 ^ (7 - r) % 2) (sym s) ∙ ap (λ (m : ℕ). m % 2) (field (w * 2 ^ 8 + b) (suc r) (7 - r))
       ∙ bit-of ((w * 2 ^ 8 + b) / 2 ^ (7 - r)) r)
 
@@ -62,21 +63,26 @@ module _ (row : List ℕ) (k n w b : ℕ) (f : Word row k n w) (is : b ≡ getD 
           let p : 2 ^ (8 * suc n) ≡ 2 ^ (8 * n) * 2 ^ 8 = ap (λ (j : ℕ). 2 ^ j) e ∙ pow-add 2 (8 * n) 8 in
           omega (arith, f .small)
 
-      go : (i : ℕ) → i < 8 * suc n → Dec (i < 8 * n) → (w * 2 ^ 8 + b) / 2 ^ (8 * suc n - 1 - i) % 2 ≡ pelAt row (8 * k + i)
+      go : (i : ℕ) → i < 8 * suc n → Dec (i < 8 * n) → (w * 2 ^ 8 + b) / 2 ^ (8 * suc n - 1 - i) % 2 ≡ pelAt row
+          (8 * k + i)
       go i h (yes l) = before i l
       go i h (no l) = own i (omega arith) h
 
 -- as a program joins it
-pub word-join : (row : List ℕ) (k n w b : ℕ) → Word row k n w → n < 8 → b ≡ getD row (k + n) 0 → b ≤ 255 → Word row k (n + 1)
+pub word-join : (row : List ℕ) (k n w b : ℕ) → Word row k n w → n < 8 → b ≡ getD row (k + n) 0 → b ≤ 255
+    → Word row k (n + 1)
     (bitOr (w * 2 ^ 8 % 2 ^ 64) b)
 word-join row k n w b f h e o =
-    rw (add-one, shl-exact {a = w} (8 * n) 8 64 (f .small) (omega arith), or-shifted w 8 b (omega arith)) (word-next row k n w b f e o)
+    rw (add-one, shl-exact {a = w} (8 * n) 8 64 (f .small) (omega arith), or-shifted w 8 b (omega arith))
+    (word-next row k n w b f e o)
 
 -- past the row's end a byte is 0
-pub word-past : (row : List ℕ) (k n w : ℕ) → Word row k n w → n < 8 → length row ≤ k + n → Word row k (n + 1) (w * 2 ^ 8 % 2 ^ 64)
+pub word-past : (row : List ℕ) (k n w : ℕ) → Word row k n w → n < 8 → length row ≤ k + n
+    → Word row k (n + 1) (w * 2 ^ 8 % 2 ^ 64)
 word-past row k n w f h p =
     rw (add-one, shl-exact {a = w} (8 * n) 8 64 (f .small) (omega arith))
-    (subst (Word row k (suc n)) none (word-next row k n w 0 f (sym (List·getD-eq-default row 0 {n = k + n} p)) (omega arith)))
+    (subst (Word row k (suc n)) none (word-next row k n w 0 f (sym (List·getD-eq-default row 0 {n = k + n} p))
+    (omega arith)))
   where
     none : w * 2 ^ 8 + 0 ≡ w * 2 ^ 8
     none = omega arith
@@ -85,7 +91,8 @@ word-past row k n w f h p =
 pub mask-is : (o : ℕ) → o ≤ 64 → 18446744073709551615 / 2 ^ o ≡ 2 ^ (64 - o) - 1
 mask-is o h =
     let e : 64 ≡ 64 - o + o = omega arith in
-    ap (λ (j : ℕ). (2 ^ j - 1) / 2 ^ o) e ∙ ap (λ (m : ℕ). m / 2 ^ o) (ones-split (64 - o) o) ∙ high (2 ^ (64 - o) - 1) o {lo = 2 ^ o - 1} (ones-lt o)
+    ap (λ (j : ℕ). (2 ^ j - 1) / 2 ^ o) e ∙ ap (λ (m : ℕ). m / 2 ^ o) (ones-split (64 - o) o) ∙ high (2 ^ (64 - o) - 1)
+    o {lo = 2 ^ o - 1} (ones-lt o)
 
 pub masked : (w o : ℕ) → o ≤ 64 → bitAnd w (18446744073709551615 / 2 ^ o) ≡ w % 2 ^ (64 - o)
 masked w o h = ap (bitAnd w) (mask-is o h) ∙ and-mask w (64 - o)
@@ -104,7 +111,11 @@ module _ (row : List ℕ) (k w o : ℕ) (f : Word row k 8 w) (h : o < 64) where
   small = let p : 2 ^ (64 - o) ≤ 2 ^ 64 = pow-mono {i = 64 - o} {j = 64} (omega arith) in omega (arith, below)
 
   pub zeros-more : (o ≤ zeros) × (zeros ≤ 64)
-  zeros-more = let l = leading-length 64 t small in (go (l .0) (l .1) (l .3) (decLt (64 - o) (l .0)), omega (arith, l .1))
+  zeros-more = let l = leading-length 64 t small in (
+    go (l .0) (l .1) (l .3) (decLt (64 - o) (l .0)),
+    omega
+        (arith, l .1),
+  )
     where
       go : (m : ℕ) → zeros + m ≡ 64 → 2 ^ m ≤ 2 * t + 1 → Dec (64 - o < m) → o ≤ zeros
       go m e u (no s) = omega arith
@@ -115,7 +126,8 @@ module _ (row : List ℕ) (k w o : ℕ) (f : Word row k 8 w) (h : o < 64) where
 
   -- its leading zeros are white pels
   pub zeros-white : (i : ℕ) → o ≤ i → i < zeros → pelAt row (8 * k + i) ≡ 0
-  zeros-white i a b = sym (f .pels i (omega (arith, zeros-more .1))) ∙ ap (λ (j : ℕ). w / 2 ^ j % 2) e ∙ sym (bit-of (w / 2 ^ (63 - i)) (i - o))
+  zeros-white i a b = sym (f .pels i (omega (arith, zeros-more .1))) ∙ ap (λ (j : ℕ). w / 2 ^ j % 2) e
+      ∙ sym (bit-of (w / 2 ^ (63 - i)) (i - o))
       ∙ ap (λ (m : ℕ). m % 2) none
     where
       e : 8 * 8 - 1 - i ≡ 63 - i

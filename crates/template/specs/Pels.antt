@@ -49,4 +49,5 @@ rightOf row x d = getD row (x + d) 0
 unfoldable pub context : List ℕ → List ℕ → ℕ → ℕ
 context above this x =
     1 * leftOf this x 1 + 2 * leftOf this x 2
-    + 4 * rightOf above x 2 + 8 * rightOf above x 1 + 16 * rightOf above x 0 + 32 * leftOf above x 1 + 64 * leftOf above x 2
+    + 4 * rightOf above x 2 + 8 * rightOf above x 1 + 16 * rightOf above x 0 + 32 * leftOf above x 1 + 64 *
+    leftOf above x 2

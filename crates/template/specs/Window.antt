@@ -8,5 +8,6 @@ use Rattle.template.specs.Pels.{leftOf, rightOf}
 
 -- ---- the registers at x: the five pels of the row above, the two of this row
 pub record Slid (above this : List ℕ) (x : ℕ) (w : Window) : Type 0 where
-  pub five : w .above ≡ rightOf above x 2 + 2 * rightOf above x 1 + 4 * rightOf above x 0 + 8 * leftOf above x 1 + 16 * leftOf above x 2
+  pub five : w .above ≡ rightOf above x 2 + 2 * rightOf above x 1 + 4 * rightOf above x 0 + 8 * leftOf above x 1 + 16 *
+      leftOf above x 2
   pub two : w .this ≡ leftOf this x 1 + 2 * leftOf this x 2

@@ -175,7 +175,8 @@ pub fn under_to(above: &[u8], width: usize, x: usize) -> usize
 
 // Where the white pels under white ones end.
 pub fn run_to(row: &[u8], above: &[u8], width: usize, x: usize) -> usize
-    requires { ⌜ (width ≤ maxWidth) × (width ≤ 8 * length (now row)) × (width ≤ 8 * length (now above)) × (x < width) ⌝ }
+    requires { ⌜ (width ≤ maxWidth) × (width ≤ 8 * length (now row)) × (width ≤ 8 * length (now above))
+        × (x < width) ⌝ }
     ensures { λ r. ⌜ (x ≤ r) × Clear (now (row .entry)) (pelsTo (now (above .entry)) width) width x r ⌝ }
 {
     let over = under_to(above, width, x);
@@ -218,8 +219,10 @@ impl Window {
 
     // At x + 1, after the pel at x.
     pub fn slide(self, above: &[u8], width: usize, x: usize, pel: u8) -> Self
-        requires { ⌜ (width ≤ 8 * length (now above)) × (x < maxWidth) × (pel ≤ 1) × (self .above < 32) × (self .this < 4) ⌝ }
-        ensures { λ r. ⌜ (r .above ≡ (2 * self .above + getD (pelsTo (now (above .entry)) width) (x + 3) 0) % 32) × (r .this ≡ (2 * self .this + pel) % 4) ⌝ }
+        requires { ⌜ (width ≤ 8 * length (now above)) × (x < maxWidth) × (pel ≤ 1) × (self .above < 32)
+            × (self .this < 4) ⌝ }
+        ensures { λ r. ⌜ (r .above ≡ (2 * self .above + getD (pelsTo (now (above .entry)) width) (x + 3) 0) % 32)
+            × (r .this ≡ (2 * self .this + pel) % 4) ⌝ }
     {
         let a = edge_pel(above, width, x + 3);
         let p = pel as usize;

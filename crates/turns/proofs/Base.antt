@@ -24,7 +24,8 @@ onlyReserved (some t) p = false
 onlyReserved none (some p) = true
 onlyReserved none none = false
 
-pub placed-sum : {T P : Type 0} (t : Option T) (p : Option P) → one (placed t p) ≡ one (given t) + one (onlyReserved t p)
+pub placed-sum : {T P : Type 0} (t : Option T) (p : Option P) → one (placed t p) ≡ one (given t) + one
+    (onlyReserved t p)
 placed-sum (some t) p = refl
 placed-sum none (some p) = refl
 placed-sum none none = refl
@@ -39,7 +40,8 @@ placed-none (some t) p e = refl
 placed-none none (some p) e = no-way (ap given e)
 placed-none none none e = refl
 
-pub only-reserved : {T P : Type 0} (t : Option T) (p : Option P) → given t ≡ false → given p ≡ true → onlyReserved t p ≡ true
+pub only-reserved : {T P : Type 0} (t : Option T) (p : Option P) → given t ≡ false → given p ≡ true
+    → onlyReserved t p ≡ true
 only-reserved (some t) p h q = no-way h
 only-reserved none (some p) h q = refl
 only-reserved none none h q = no-way (sym q)
@@ -62,14 +64,16 @@ module _ (K : Keys) where
   put-self k a f = rw (same-self k)
 
   -- what holds of k's new value and of the others' old ones holds of all
-  pub put-each : {A : Type 0} (P : Key → A → Type 0) (k : Key) (a : A) (f : Key → A) → P k a → ((j : Key) → same k j ≡ false → P j (f j)) → (j : Key) → P j (put K k a f j)
+  pub put-each : {A : Type 0} (P : Key → A → Type 0) (k : Key) (a : A) (f : Key → A) → P k a
+      → ((j : Key) → same k j ≡ false → P j (f j)) → (j : Key) → P j (put K k a f j)
   put-each {A} P k a f h r j = go (same k j) refl
     where
       go : (v : Bool) → same k j ≡ v → P j (cond v a (f j))
       go true e = subst (λ (i : Key). P i a) (same-only k j e) h
       go false e = r j e
 
-  pub put-both : {A B : Type 0} (P : Key → A → B → Type 0) (k : Key) (a : A) (f : Key → A) (b : B) (g : Key → B) → P k a b → ((j : Key) → P j (f j) (g j)) → (j : Key) → P j (put K k a f j) (put K k b g j)
+  pub put-both : {A B : Type 0} (P : Key → A → B → Type 0) (k : Key) (a : A) (f : Key → A) (b : B) (g : Key → B)
+      → P k a b → ((j : Key) → P j (f j) (g j)) → (j : Key) → P j (put K k a f j) (put K k b g j)
   put-both P k a f b g h r j = go (same k j) refl
     where
       go : (v : Bool) → same k j ≡ v → P j (cond v a (f j)) (cond v b (g j))
@@ -103,7 +107,8 @@ module _ (K : Keys) where
   has-length k [] h = no-way (sym h)
   has-length k (j ∷ js) h = go (same j k) h (has-length k js)
     where
-      go : (v : Bool) → cond v true (has k js) ≡ true → (has k js ≡ true → length js ≡ suc (length (without k js))) → suc (length js) ≡ suc (length (cond v js (j ∷ without k js)))
+      go : (v : Bool) → cond v true (has k js) ≡ true → (has k js ≡ true → length js ≡ suc (length (without k js)))
+          → suc (length js) ≡ suc (length (cond v js (j ∷ without k js)))
       go true h r = refl
       go false h r = ap suc (r h)
 
@@ -115,7 +120,8 @@ module _ (K : Keys) where
   has-without k j [] n h = h
   has-without k j (i ∷ is) n h = go (same i k) refl (has-without k j is n)
     where
-      go : (v : Bool) → same i k ≡ v → (has j is ≡ true → has j (without k is) ≡ true) → has j (cond v is (i ∷ without k is)) ≡ true
+      go : (v : Bool) → same i k ≡ v → (has j is ≡ true → has j (without k is) ≡ true)
+          → has j (cond v is (i ∷ without k is)) ≡ true
       go true e r = mine (same i j) refl h
         where
           mine : (u : Bool) → same i j ≡ u → cond u true (has j is) ≡ true → has j is ≡ true
@@ -127,21 +133,25 @@ module _ (K : Keys) where
           other true h′ = refl
           other false h′ = r h′
 
-  pub relist-length : (k : Key) (a b : Bool) (js : List Key) → (a ≡ true → has k js ≡ true) → length (relist k a b js) ≡ length js + one b - one a
+  pub relist-length : (k : Key) (a b : Bool) (js : List Key) → (a ≡ true → has k js ≡ true) → length (relist k a b js)
+      ≡ length js + one b - one a
   unfolding relist
   relist-length k false true js h = omega arith
-  relist-length k true false js h = let e : length js ≡ suc (length (without k js)) = has-length k js (h refl) in omega arith
+  relist-length k true false js h = let e : length js ≡ suc (length (without k js)) = has-length k js (h refl) in
+      omega arith
   relist-length k true true js h = omega arith
   relist-length k false false js h = omega arith
 
-  pub relist-self : (k : Key) (a b : Bool) (js : List Key) → (a ≡ true → has k js ≡ true) → b ≡ true → has k (relist k a b js) ≡ true
+  pub relist-self : (k : Key) (a b : Bool) (js : List Key) → (a ≡ true → has k js ≡ true) → b ≡ true
+      → has k (relist k a b js) ≡ true
   unfolding relist has
   relist-self k false true js h y = rw (same-self k)
   relist-self k true false js h y = no-way (sym y)
   relist-self k true true js h y = h refl
   relist-self k false false js h y = no-way (sym y)
 
-  pub relist-other : (k j : Key) (a b : Bool) (js : List Key) → same k j ≡ false → has j js ≡ true → has j (relist k a b js) ≡ true
+  pub relist-other : (k j : Key) (a b : Bool) (js : List Key) → same k j ≡ false → has j js ≡ true
+      → has j (relist k a b js) ≡ true
   unfolding relist has
   relist-other k j false true js n h = rw (n, h)
   relist-other k j true false js n h = has-without k j js n h

@@ -4,7 +4,8 @@ use mathlib.Core.List.{List, [], _∷_}
 use Prim.Native.Nat.{ℕ}
 use lib.Dec.{eqb}
 use borrow.Author.Tests.{eqb-true, eq-eqb}
-use Rattle.turns.specs.Service.{Kind, opening, band, closing, abandoning, looking, changing, Mark, accepted, refused, Service, Entry}
+use Rattle.turns.specs.Service.{Kind, opening, band, closing, abandoning, looking, changing, Mark, accepted}
+use Rattle.turns.specs.Service.{refused, Service, Entry}
 use Rattle.turns.specs.Serial.{waitsAs, servesAs, serialFrom, serial}
 
 -- a key, what is asked of it, and a number that tells the calls apart

@@ -1,4 +1,5 @@
--- What a desk serves, one key at a time: document 01's "The desk and who may stand at it", without the room. Assumes nothing.
+-- What a desk serves, one key at a time: document 01's "The desk and who may stand at it", without the room. Assumes
+-- nothing.
 use mathlib.Core.Path.{_≡_}
 use mathlib.Core.Bool.{Bool, true}
 use mathlib.Core.Option.{Option}
@@ -19,7 +20,8 @@ pub data Result (Output A : Type 0) : Type 0 where
 pub not-accepted : {Output A B : Type 0} {o p : Output} {a : A} → refuse o ≡ accept p a → B
 not-accepted e = let z : _≡_ {A = ℕ} 0 1 = cc in absurd (omega arith)
 
--- An office: `act` says what a call does to its key's cell where there is room; `working` is a page's working table; `pages` and `places` are the room.
+-- An office: `act` says what a call does to its key's cell where there is room; `working` is a page's working table;
+-- `pages` and `places` are the room.
 -- A call holds its inputs and the lent buffer as it was; an output holds the answer and the lent buffer as it is then.
 pub record Office : Type 1 where
   pub Key : Type 0
@@ -43,4 +45,14 @@ cell t p = record { learned = t; page = p }
 
 -- the calls of an office, without what they do
 abbrev pub service : Office → Service
-service O = record { Key = O .Key; same = O .same; same-self = O .same-self; same-only = O .same-only; Call = O .Call; Output = O .Output; key = O .key; kind = O .kind }
+service O = record {
+  Key = O .Key;
+  same = O .same;
+  same-self = O .same-self;
+  same-only = O .same-only;
+  Call =
+      O .Call;
+  Output = O .Output;
+  key = O .key;
+  kind = O .kind;
+}

@@ -1,4 +1,5 @@
--- A row of page slots and a row of class places, the lowest free one taken: what a change under one key leaves as it was. Assumes nothing.
+-- A row of page slots and a row of class places, the lowest free one taken: what a change under one key leaves as it
+-- was. Assumes nothing.
 use mathlib.Core.Path.{_≡_, refl, sym, ap, _∙_, subst}
 use mathlib.Core.Bool.{Bool, true, false, _&&_, not}
 use mathlib.Core.List.{List, [], _∷_}
@@ -43,14 +44,20 @@ module _ (K : Keys) (Table Page : Type 0) where
   cellAt s k = cell (join (find K (Option Table) k (s .classPlaces))) (find K Page k (s .pageSlots))
 
   unfoldable pub slotStore : Shelves → Key → Cell Table Page → Shelves
-  slotStore s k y = record { pageSlots = update K Page k (y .page) (s .pageSlots); classPlaces = update K (Option Table) k (placeOf (y .learned) (y .page)) (s .classPlaces) }
+  slotStore s k y =
+      record {
+        pageSlots = update K Page k (y .page) (s .pageSlots);
+        classPlaces = update K (Option Table) k
+            (placeOf (y .learned) (y .page)) (s .classPlaces);
+      }
 
   -- 4: a page is to be opened, and no slot is free; 5: a place is to be taken, and none is free
   unfoldable pub noSlot : Shelves → Key → Cell Table Page → Bool
   noSlot s k y = (not (given (find K Page k (s .pageSlots))) && given (y .page)) && not (free K Page (s .pageSlots))
 
   unfoldable pub noClassPlace : Shelves → Key → Cell Table Page → Bool
-  noClassPlace s k y = (not (given (find K (Option Table) k (s .classPlaces))) && given (placeOf (y .learned) (y .page))) && not (free K (Option Table) (s .classPlaces))
+  noClassPlace s k y = (not (given (find K (Option Table) k (s .classPlaces)))
+      && given (placeOf (y .learned) (y .page))) && not (free K (Option Table) (s .classPlaces))
 
   -- different keys; an open page has its place, and a place that is only reserved has its page
   pub record Fitting (s : Shelves) : Type 0 where
@@ -59,31 +66,41 @@ module _ (K : Keys) (Table Page : Type 0) where
     pub lone-places : Lone K (Option Table) (s .classPlaces)
 
   -- one key's cell stored: it stands there, the others are as they were, and all fits as before
-  module _ (s : Shelves) (z : Fitting s) (k : Key) (y : Cell Table Page) (f : noSlot s k y ≡ false) (g : noClassPlace s k y ≡ false) where
+  module _ (s : Shelves) (z : Fitting s) (k : Key) (y : Cell Table Page) (f : noSlot s k y ≡ false)
+      (g : noClassPlace s k y ≡ false) where
     pub pages-then : Updated K Page k (y .page) (s .pageSlots) (update K Page k (y .page) (s .pageSlots))
     unfolding noSlot
     pages-then = updated K Page k (y .page) (s .pageSlots) (z .lone-pages) f
 
-    pub places-then : Updated K (Option Table) k (placeOf (y .learned) (y .page)) (s .classPlaces) (update K (Option Table) k (placeOf (y .learned) (y .page)) (s .classPlaces))
+    pub places-then : Updated K (Option Table) k (placeOf (y .learned) (y .page)) (s .classPlaces)
+        (update K (Option Table) k (placeOf (y .learned) (y .page)) (s .classPlaces))
     unfolding noClassPlace
     places-then = updated K (Option Table) k (placeOf (y .learned) (y .page)) (s .classPlaces) (z .lone-places) g
 
     pub own-cell : y ≡ cellAt (slotStore s k y) k
     unfolding slotStore
-    own-cell = λ i. record { learned = sym (ap join (places-then .self) ∙ join-place (y .learned) (y .page)) i; page = sym (pages-then .self) i }
+    own-cell = λ i. record {
+      learned = sym (ap join (places-then .self) ∙ join-place (y .learned) (y .page)) i;
+      page =
+          sym (pages-then .self) i;
+    }
 
     pub other-cell : (j : Key) → same k j ≡ false → cellAt (slotStore s k y) j ≡ cellAt s j
     unfolding slotStore
     other-cell j n = λ i. record { learned = join (places-then .other j n i); page = pages-then .other j n i }
 
-    fits-then : (j : Key) → find K (Option Table) j (slotStore s k y .classPlaces) ≡ placeOf (cellAt (slotStore s k y) j .learned) (cellAt (slotStore s k y) j .page)
+    fits-then : (j : Key) → find K (Option Table) j (slotStore s k y .classPlaces) ≡ placeOf
+        (cellAt (slotStore s k y) j .learned) (cellAt (slotStore s k y) j .page)
     unfolding slotStore
     fits-then j = go (same k j) refl
       where
-        go : (b : Bool) → same k j ≡ b → find K (Option Table) j (slotStore s k y .classPlaces) ≡ placeOf (cellAt (slotStore s k y) j .learned) (cellAt (slotStore s k y) j .page)
-        go true e = subst (λ (i : Key). find K (Option Table) i (slotStore s k y .classPlaces) ≡ placeOf (cellAt (slotStore s k y) i .learned) (cellAt (slotStore s k y) i .page)) (same-only k j e)
+        go : (b : Bool) → same k j ≡ b → find K (Option Table) j (slotStore s k y .classPlaces) ≡ placeOf
+            (cellAt (slotStore s k y) j .learned) (cellAt (slotStore s k y) j .page)
+        go true e = subst (λ (i : Key). find K (Option Table) i (slotStore s k y .classPlaces) ≡ placeOf
+            (cellAt (slotStore s k y) i .learned) (cellAt (slotStore s k y) i .page)) (same-only k j e)
             (places-then .self ∙ ap (λ (x : Cell Table Page). placeOf (x .learned) (x .page)) own-cell)
-        go false e = places-then .other j e ∙ z .fits j ∙ ap (λ (x : Cell Table Page). placeOf (x .learned) (x .page)) (sym (other-cell j e))
+        go false e = places-then .other j e ∙ z .fits j ∙ ap (λ (x : Cell Table Page). placeOf (x .learned) (x .page))
+            (sym (other-cell j e))
 
     pub fitting-store : Fitting (slotStore s k y)
     unfolding slotStore

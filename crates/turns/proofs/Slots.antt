@@ -87,7 +87,8 @@ module _ (K : Keys) (A : Type 0) where
   find-erase k j (none ∷ s) n = find-erase k j s n
   find-erase k j (some m ∷ s) n = go (same (m .name) k) refl (find-erase k j s n)
     where
-      go : (v : Bool) → same (m .name) k ≡ v → find j (erase k s) ≡ find j s → find j (cond v (none ∷ s) (some m ∷ erase k s)) ≡ cond (same (m .name) j) (some (m .value)) (find j s)
+      go : (v : Bool) → same (m .name) k ≡ v → find j (erase k s) ≡ find j s
+          → find j (cond v (none ∷ s) (some m ∷ erase k s)) ≡ cond (same (m .name) j) (some (m .value)) (find j s)
       go true e ih = rw (same-only (m .name) k e, n)
       go false e ih = rw ih
 
@@ -97,7 +98,9 @@ module _ (K : Keys) (A : Type 0) where
   find-replace k j a (none ∷ s) n = find-replace k j a s n
   find-replace k j a (some m ∷ s) n = go (same (m .name) k) refl (find-replace k j a s n)
     where
-      go : (v : Bool) → same (m .name) k ≡ v → find j (replace k a s) ≡ find j s → find j (cond v (named k a ∷ s) (some m ∷ replace k a s)) ≡ cond (same (m .name) j) (some (m .value)) (find j s)
+      go : (v : Bool) → same (m .name) k ≡ v → find j (replace k a s) ≡ find j s
+          → find j (cond v (named k a ∷ s) (some m ∷ replace k a s)) ≡ cond (same (m .name) j) (some (m .value))
+          (find j s)
       go true e ih = rw (same-only (m .name) k e, n)
       go false e ih = rw ih
 
@@ -114,7 +117,8 @@ module _ (K : Keys) (A : Type 0) where
   own-erase k (none ∷ s) l = own-erase k s l
   own-erase k (some m ∷ s) l = go (same (m .name) k) refl (own-erase k s (l .1))
     where
-      go : (v : Bool) → same (m .name) k ≡ v → find k (erase k s) ≡ none → find k (cond v (none ∷ s) (some m ∷ erase k s)) ≡ none
+      go : (v : Bool) → same (m .name) k ≡ v → find k (erase k s) ≡ none
+          → find k (cond v (none ∷ s) (some m ∷ erase k s)) ≡ none
       go true e ih = rw (← same-only (m .name) k e) (l .0)
       go false e ih = rw e ih
 
@@ -124,7 +128,9 @@ module _ (K : Keys) (A : Type 0) where
   own-replace k a (none ∷ s) h = own-replace k a s h
   own-replace k a (some m ∷ s) h = go (same (m .name) k) refl (own-replace k a s) h
     where
-      go : (v : Bool) → same (m .name) k ≡ v → (given (find k s) ≡ true → find k (replace k a s) ≡ some a) → given (cond v (some (m .value)) (find k s)) ≡ true → find k (cond v (named k a ∷ s) (some m ∷ replace k a s)) ≡ some a
+      go : (v : Bool) → same (m .name) k ≡ v → (given (find k s) ≡ true → find k (replace k a s) ≡ some a)
+          → given (cond v (some (m .value)) (find k s)) ≡ true
+          → find k (cond v (named k a ∷ s) (some m ∷ replace k a s)) ≡ some a
       go true e ih h = rw (same-self k)
       go false e ih h = rw e (ih h)
 
@@ -134,7 +140,9 @@ module _ (K : Keys) (A : Type 0) where
   own-insert k a (none ∷ s) h f = rw (same-self k)
   own-insert k a (some m ∷ s) h f = go (same (m .name) k) h (λ g. own-insert k a s g f)
     where
-      go : (v : Bool) → given (cond v (some (m .value)) (find k s)) ≡ false → (given (find k s) ≡ false → find k (insert k a s) ≡ some a) → cond v (some (m .value)) (find k (insert k a s)) ≡ some a
+      go : (v : Bool) → given (cond v (some (m .value)) (find k s)) ≡ false
+          → (given (find k s) ≡ false → find k (insert k a s) ≡ some a)
+          → cond v (some (m .value)) (find k (insert k a s)) ≡ some a
       go true h ih = no-way h
       go false h ih = ih h
 
@@ -145,7 +153,9 @@ module _ (K : Keys) (A : Type 0) where
   used-erase k (none ∷ s) h = used-erase k s h
   used-erase k (some m ∷ s) h = go (same (m .name) k) (used-erase k s) h
     where
-      go : (v : Bool) → (given (find k s) ≡ true → used s ≡ suc (used (erase k s))) → given (cond v (some (m .value)) (find k s)) ≡ true → suc (used s) ≡ suc (used (cond v (none ∷ s) (some m ∷ erase k s)))
+      go : (v : Bool) → (given (find k s) ≡ true → used s ≡ suc (used (erase k s)))
+          → given (cond v (some (m .value)) (find k s)) ≡ true
+          → suc (used s) ≡ suc (used (cond v (none ∷ s) (some m ∷ erase k s)))
       go true ih h = refl
       go false ih h = ap suc (ih h)
 
@@ -155,7 +165,8 @@ module _ (K : Keys) (A : Type 0) where
   used-replace k a (none ∷ s) = used-replace k a s
   used-replace k a (some m ∷ s) = go (same (m .name) k) (used-replace k a s)
     where
-      go : (v : Bool) → used (replace k a s) ≡ used s → used (cond v (named k a ∷ s) (some m ∷ replace k a s)) ≡ suc (used s)
+      go : (v : Bool) → used (replace k a s) ≡ used s → used (cond v (named k a ∷ s) (some m ∷ replace k a s))
+          ≡ suc (used s)
       go true ih = refl
       go false ih = ap suc ih
 
@@ -182,7 +193,8 @@ module _ (K : Keys) (A : Type 0) where
   length-replace k a (none ∷ s) = ap suc (length-replace k a s)
   length-replace k a (some m ∷ s) = go (same (m .name) k) (length-replace k a s)
     where
-      go : (v : Bool) → length (replace k a s) ≡ length s → length (cond v (named k a ∷ s) (some m ∷ replace k a s)) ≡ suc (length s)
+      go : (v : Bool) → length (replace k a s) ≡ length s → length (cond v (named k a ∷ s) (some m ∷ replace k a s))
+          ≡ suc (length s)
       go true ih = refl
       go false ih = ap suc ih
 
@@ -209,7 +221,8 @@ module _ (K : Keys) (A : Type 0) where
   lone-replace k a (none ∷ s) l = lone-replace k a s l
   lone-replace k a (some m ∷ s) l = go (same (m .name) k) refl (lone-replace k a s (l .1))
     where
-      go : (v : Bool) → same (m .name) k ≡ v → Lone (replace k a s) → Lone (cond v (named k a ∷ s) (some m ∷ replace k a s))
+      go : (v : Bool) → same (m .name) k ≡ v → Lone (replace k a s)
+          → Lone (cond v (named k a ∷ s) (some m ∷ replace k a s))
       go true e ih = (rw (← same-only (m .name) k e) (l .0), l .1)
       go false e ih = (find-replace k (m .name) a s (same-flip (m .name) k e) ∙ l .0, ih)
 
@@ -219,7 +232,9 @@ module _ (K : Keys) (A : Type 0) where
   lone-insert k a (none ∷ s) h l = (none-given (find k s) h, l)
   lone-insert k a (some m ∷ s) h l = go (same (m .name) k) refl h (λ g. lone-insert k a s g (l .1))
     where
-      go : (v : Bool) → same (m .name) k ≡ v → given (cond v (some (m .value)) (find k s)) ≡ false → (given (find k s) ≡ false → Lone (insert k a s)) → (find (m .name) (insert k a s) ≡ none) × Lone (insert k a s)
+      go : (v : Bool) → same (m .name) k ≡ v → given (cond v (some (m .value)) (find k s)) ≡ false
+          → (given (find k s) ≡ false → Lone (insert k a s)) → (find (m .name) (insert k a s) ≡ none)
+          × Lone (insert k a s)
       go true e h ih = no-way h
       go false e h ih = (find-insert k (m .name) a s (same-flip (m .name) k e) ∙ l .0, ih h)
 
@@ -244,7 +259,8 @@ module _ (K : Keys) (A : Type 0) where
     pub size : length s′ ≡ length s
     pub count : used s′ ≡ used s + one (given o) - one (given (find k s))
 
-  pub updated : (k : Key) (o : Option A) (s : Slots) → Lone s → ((not (given (find k s)) && given o) && not (free s)) ≡ false → Updated k o s (update k o s)
+  pub updated : (k : Key) (o : Option A) (s : Slots) → Lone s → ((not (given (find k s)) && given o) && not (free s))
+      ≡ false → Updated k o s (update k o s)
   unfolding update updateBy
   updated k o s l r = go (given (find k s)) o refl r
     where
@@ -252,8 +268,40 @@ module _ (K : Keys) (A : Type 0) where
       is-free true h = refl
       is-free false h = sym h
 
-      go : (v : Bool) (o : Option A) → given (find k s) ≡ v → ((not v && given o) && not (free s)) ≡ false → Updated k o s (updateBy v k o s)
-      go true none e r = record { self = own-erase k s l; other = λ j n. find-erase k j s n; lone = lone-erase k s l; size = length-erase k s; count = rw e (omega (arith, used-erase k s e)) }
-      go true (some a) e r = record { self = own-replace k a s e; other = λ j n. find-replace k j a s n; lone = lone-replace k a s l; size = length-replace k a s; count = rw (e, used-replace k a s) (omega arith) }
-      go false none e r = record { self = none-given (find k s) e; other = λ j n. refl; lone = l; size = refl; count = rw e (omega arith) }
-      go false (some a) e r = record { self = own-insert k a s e (is-free (free s) r); other = λ j n. find-insert k j a s n; lone = lone-insert k a s e l; size = length-insert k a s; count = rw (e, used-insert k a s (is-free (free s) r)) (omega arith) }
+      go : (v : Bool) (o : Option A) → given (find k s) ≡ v → ((not v && given o) && not (free s)) ≡ false
+          → Updated k o s (updateBy v k o s)
+      go true none e r =
+          record {
+            self = own-erase k s l;
+            other = λ j n. find-erase k j s n;
+            lone = lone-erase k s l;
+            size =
+                length-erase k s;
+            count = rw e (omega (arith, used-erase k s e));
+          }
+      go true (some a) e r = record {
+        self = own-replace k a s e;
+        other = λ j n. find-replace k j a s n;
+        lone =
+            lone-replace k a s l;
+        size = length-replace k a s;
+        count = rw (e, used-replace k a s) (omega arith);
+      }
+      go false none e r = record {
+        self = none-given (find k s) e;
+        other = λ j n. refl;
+        lone = l;
+        size = refl;
+        count =
+            rw e (omega arith);
+      }
+      go false (some a) e r =
+          record {
+            self = own-insert k a s e (is-free (free s) r);
+            other = λ j n. find-insert k j a s n;
+            lone =
+                lone-insert k a s e l;
+            size = length-insert k a s;
+            count = rw (e, used-insert k a s (is-free (free s) r))
+                (omega arith);
+          }

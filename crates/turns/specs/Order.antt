@@ -1,7 +1,8 @@
 -- What stands in a list of calls of its own accord, and what is of one key. Assumes nothing.
 use mathlib.Core.Bool.{Bool, true, false}
 use mathlib.Core.List.{List, [], _∷_}
-use Rattle.turns.specs.Service.{Kind, opening, band, closing, abandoning, looking, changing, Mark, accepted, refused, crowded, Service, Entry}
+use Rattle.turns.specs.Service.{Kind, opening, band, closing, abandoning, looking, changing, Mark, accepted}
+use Rattle.turns.specs.Service.{refused, crowded, Service, Entry}
 use Rattle.turns.specs.Base.{keep}
 
 module _ (S : Service) where

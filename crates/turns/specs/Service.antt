@@ -19,7 +19,8 @@ pub record Keys : Type 1 where
   pub same-self : (k : Key) → same k k ≡ true
   pub same-only : (j k : Key) → same j k ≡ true → j ≡ k
 
--- What is asked and answered. A call holds its inputs and the lent buffer as it was; an output holds the answer and the lent buffer as it is then.
+-- What is asked and answered. A call holds its inputs and the lent buffer as it was; an output holds the answer and the
+-- lent buffer as it is then.
 pub record Service : Type 1 where
   pub Key : Type 0
   pub same : Key → Key → Bool

@@ -3,7 +3,8 @@
 use mathlib.Core.Bool.{Bool, true, false, cond}
 use mathlib.Core.List.{List, [], _∷_}
 use Prim.Native.Nat.{ℕ, _+_}
-use Rattle.turns.specs.Service.{Kind, opening, band, closing, abandoning, looking, changing, Mark, accepted, refused, crowded, Service, Entry}
+use Rattle.turns.specs.Service.{Kind, opening, band, closing, abandoning, looking, changing, Mark, accepted}
+use Rattle.turns.specs.Service.{refused, crowded, Service, Entry}
 use Rattle.turns.specs.Desk.{one}
 use Rattle.turns.specs.Base.{keep}
 
@@ -19,7 +20,8 @@ fateAs true accepted abandoning later = false
 fateAs true accepted looking later = later
 fateAs true accepted changing later = later
 
--- is a call left: a page's opening and bands where the page is closed later; its closing; never its abandoning; a call on a table
+-- is a call left: a page's opening and bands where the page is closed later; its closing; never its abandoning; a call
+-- on a table
 abbrev pub leftAs : Mark → Kind → Bool → Bool
 leftAs refused κ closed = false
 leftAs crowded κ closed = false

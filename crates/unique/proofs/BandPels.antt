@@ -31,13 +31,15 @@ row-pels row (suc n) = pels-append (pelsTo row n) (pelAt row n ∷ []) (row-pels
 pub band-pels : (width : ℕ) (band : List ℕ) (n : ℕ) → AllPels (bandTo width band n)
 unfolding bandTo
 band-pels width band zero = tt
-band-pels width band (suc n) = pels-append (bandTo width band n) (pelsTo (rowAt width band n) width) (band-pels width band n) (row-pels (rowAt width band n) width)
+band-pels width band (suc n) = pels-append (bandTo width band n) (pelsTo (rowAt width band n) width)
+    (band-pels width band n) (row-pels (rowAt width band n) width)
 
 pub band-size : (width : ℕ) (band : List ℕ) (n : ℕ) → length (bandTo width band n) ≡ n * width
 unfolding bandTo
 band-size width band zero = sym (zero-mul width)
 band-size width band (suc n) =
-    length-append (bandTo width band n) (pelsTo (rowAt width band n) width) ∙ ap₂ (λ (j k : ℕ). j + k) (band-size width band n) (length-pels (rowAt width band n) width) ∙ sym (suc-mul n width)
+    length-append (bandTo width band n) (pelsTo (rowAt width band n) width) ∙ ap₂ (λ (j k : ℕ). j + k)
+    (band-size width band n) (length-pels (rowAt width band n) width) ∙ sym (suc-mul n width)
 
 -- ---- any band that was written as the code is the one that is read
 module _ (width : ℕ) where
@@ -53,16 +55,20 @@ module _ (width : ℕ) where
       → readPels (qPage width) qReader (rows * width) (pageAt width table last) (opened code) ≡ bandTo width band rows
   unfolding written
   reads-written rows table last code band e =
-      written-read (qPage width) qWriter qReader Sized qCoder sized bit (pageAt width table last) (rows * width) code (bandTo width band rows) (band-pels width band rows) (band-size width band rows) e
+      written-read (qPage width) qWriter qReader Sized qCoder sized bit (pageAt width table last) (rows * width) code
+      (bandTo width band rows) (band-pels width band rows) (band-size width band rows) e
 
   -- two bands of one size with one code have the same pels
-  pub same-pels : (rows : ℕ) (table last a b : List ℕ) → written width rows table last a .code ≡ written width rows table last b .code → bandTo width a rows ≡ bandTo width b rows
+  pub same-pels : (rows : ℕ) (table last a b : List ℕ) → written width rows table last a .code ≡ written width rows
+      table last b .code → bandTo width a rows ≡ bandTo width b rows
   unfolding written
   same-pels rows table last a b e =
-      no-two-bands (qPage width) qWriter qReader Sized qCoder sized bit (pageAt width table last) (bandTo width a rows) (bandTo width b rows) (band-pels width a rows) (band-pels width b rows)
+      no-two-bands (qPage width) qWriter qReader Sized qCoder sized bit (pageAt width table last) (bandTo width a rows)
+      (bandTo width b rows) (band-pels width a rows) (band-pels width b rows)
       (band-size width a rows ∙ sym (band-size width b rows)) e
 
   -- and a band's code, S and table are those of its pels
-  pub code-of-pels : (rows : ℕ) (table last a b : List ℕ) → bandTo width a rows ≡ bandTo width b rows → written width rows table last a .code ≡ written width rows table last b .code
+  pub code-of-pels : (rows : ℕ) (table last a b : List ℕ) → bandTo width a rows ≡ bandTo width b rows
+      → written width rows table last a .code ≡ written width rows table last b .code
   unfolding written
   code-of-pels rows table last a b e = ap (bandCode (qPage width) qWriter (pageAt width table last)) e

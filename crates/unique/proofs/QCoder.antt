@@ -18,7 +18,8 @@ use Rattle.exact.proofs.Ahead.{Ahead}
 use Rattle.exact.proofs.Going.{Going, going-part, going-end, going-shifts}
 use Rattle.exact.proofs.Codes.{written, code-bytes}
 use Rattle.exact.specs.Sight.{Sight, opened, seek, decide, above, under, taken}
-use Rattle.exact.proofs.Reader.{Sees, sees-upper, sees-lower, sees-shifts, sees-start, expects, refuses, decide-true, decide-false}
+use Rattle.exact.proofs.Reader.{Sees, sees-upper, sees-lower, sees-shifts, sees-start, expects, refuses, decide-true}
+use Rattle.exact.proofs.Reader.{decide-false}
 use Rattle.band.specs.Band.{qWriter}
 use Rattle.unique.specs.QCoder.{qReader}
 
@@ -53,48 +54,74 @@ ready w r = subst Ready (r .is) (ready-run (r .ds) start (r .sized) ready-start)
 
 reached-put : (q : ℕ) (e : Bool) (w : Registers) → Sized q → Reached w → Reached (pel (decision q e) w)
 reached-put q e w z r =
-    record { ds = r .ds ++ (decision q e ∷ []); sized = all-snoc (r .ds) (decision q e) (r .sized) (size q e z); is = run-snoc (r .ds) (decision q e) start ∙ ap (pel (decision q e)) (r .is) }
+    record {
+      ds = r .ds ++ (decision q e ∷ []);
+      sized = all-snoc (r .ds) (decision q e) (r .sized) (size q e z);
+      is =
+          run-snoc (r .ds) (decision q e) start ∙ ap (pel (decision q e)) (r .is);
+    }
 
 ends-here : (w : Registers) → Reached w → Ends w (code w)
 unfolding written code
 ends-here w r =
-    let e : bytes (finish w) ≡ 0 ∷ drop 1 (bytes (finish w)) = subst (λ (v : Registers). bytes (finish v) ≡ 0 ∷ drop 1 (bytes (finish v))) (r .is) (code-bytes (r .ds) (r .sized)) in
-    record { total = w .interval .count; going = subst (λ (l : List ℕ). Going w l (w .interval .count)) e (going-end w (ready w r .rest)) }
+    let e : bytes (finish w) ≡ 0 ∷ drop 1 (bytes (finish w)) = subst (λ (v : Registers). bytes (finish v) ≡ 0
+    ∷ drop 1 (bytes (finish v))) (r .is) (code-bytes (r .ds) (r .sized)) in
+    record {
+      total = w .interval .count;
+      going = subst (λ (l : List ℕ). Going w l (w .interval .count)) e
+          (going-end w (ready w r .rest));
+    }
 
-ends-part : (q : ℕ) (e : Bool) (w : Registers) (c : List ℕ) → Sized q → Reached w → Ends (pel (decision q e) w) c → Ends (part (decision q e) w) c
+ends-part : (q : ℕ) (e : Bool) (w : Registers) (c : List ℕ) → Sized q → Reached w → Ends (pel (decision q e) w) c
+    → Ends (part (decision q e) w) c
 ends-part q e w c z r i =
-    record { total = i .total; going = going-shifts 12 (part (decision q e) w) (0 ∷ c) (i .total) (rest-part (decision q e) w (ready w r) (size q e z)) (i .going) }
+    record {
+      total = i .total;
+      going = going-shifts 12 (part (decision q e) w) (0 ∷ c) (i .total)
+          (rest-part (decision q e) w (ready w r) (size q e z)) (i .going);
+    }
 
-ends-back : (q : ℕ) (e : Bool) (w : Registers) (c : List ℕ) → Sized q → Reached w → Ends (pel (decision q e) w) c → Ends w c
+ends-back : (q : ℕ) (e : Bool) (w : Registers) (c : List ℕ) → Sized q → Reached w → Ends (pel (decision q e) w) c
+    → Ends w c
 ends-back q e w c z r i =
     let k : Ends (part (decision q e) w) c = ends-part q e w c z r i in
-    record { total = k .total; going = going-part (decision q e) w (0 ∷ c) (k .total) (ready w r) (size q e z) (k .going) }
+    record {
+      total = k .total;
+      going = going-part (decision q e) w (0 ∷ c) (k .total) (ready w r) (size q e z)
+          (k .going);
+    }
 
 sees-first : (c : List ℕ) → Ends start c → Sees (opened c) start (0 ∷ c)
 sees-first c i =
     let a : Ahead start (0 ∷ c) (i .going .n) = i .going .ahead in
     let b : 0 ≡ a .b = ap (λ (l : List ℕ). getD l 0 0) (a .joined) in
     let s : c ≡ a .bs = ap (λ (l : List ℕ). drop 1 l) (a .joined) in
-    sees-start c (0 ∷ c) refl (subst₂ (λ (x : ℕ) (l : List ℕ). 12 ≤ places x l) (sym b) (sym s) (omega (arith, a .covers, i .going .togo)))
+    sees-start c (0 ∷ c) refl (subst₂ (λ (x : ℕ) (l : List ℕ). 12 ≤ places x l) (sym b) (sym s)
+    (omega (arith, a .covers, i .going .togo)))
 
 module _ (q : ℕ) (w : Registers) (r : Sight) (c : List ℕ) (z : Sized q) (f : Reached w) (g : Sees r w (0 ∷ c)) where
   high : Ends (pel (decision q true) w) c → q * 2 ^ r .look ≤ r .x
-  high i = let k : Ends (upper q w) c = ends-part q true w c z f i in expects q r w (0 ∷ c) (k .going .n) g (k .going .ahead)
+  high i = let k : Ends (upper q w) c = ends-part q true w c z f i in expects q r w (0 ∷ c) (k .going .n) g
+      (k .going .ahead)
 
   low : Ends (pel (decision q false) w) c → r .x < q * 2 ^ r .look
-  low i = let k : Ends (lower q w) c = ends-part q false w c z f i in refuses q r w (0 ∷ c) (k .going .n) g (k .going .ahead)
+  low i = let k : Ends (lower q w) c = ends-part q false w c z f i in refuses q r w (0 ∷ c) (k .going .n) g
+      (k .going .ahead)
 
   asks : (e : Bool) → Ends (pel (decision q e) w) c → decide q r ≡ e
   asks true i = decide-true q r (high i)
   asks false i = decide-false q r (low i)
 
-  shifts : (e : Bool) → Ends (pel (decision q e) w) c → ltb (taken q e r .width) 0x1000 ≡ ltb (part (decision q e) w .interval .width) 0x1000
+  shifts : (e : Bool) → Ends (pel (decision q e) w) c → ltb (taken q e r .width) 0x1000 ≡ ltb
+      (part (decision q e) w .interval .width) 0x1000
   shifts true i = ap (λ (a : ℕ). ltb (a - q) 0x1000) (g .wide)
   shifts false i = refl
 
   takes : (e : Bool) → Ends (pel (decision q e) w) c → Sees (seek 12 (taken q e r)) (pel (decision q e) w) (0 ∷ c)
-  takes true i = sees-shifts 12 (above q r) (upper q w) (0 ∷ c) (i .total) (rest-part (decision q true) w (ready w f) (size q true z)) (sees-upper q r w (0 ∷ c) (high i) g) (i .going)
-  takes false i = sees-shifts 12 (under q r) (lower q w) (0 ∷ c) (i .total) (rest-part (decision q false) w (ready w f) (size q false z)) (sees-lower q r w (0 ∷ c) g) (i .going)
+  takes true i = sees-shifts 12 (above q r) (upper q w) (0 ∷ c) (i .total) (rest-part (decision q true) w (ready w f)
+      (size q true z)) (sees-upper q r w (0 ∷ c) (high i) g) (i .going)
+  takes false i = sees-shifts 12 (under q r) (lower q w) (0 ∷ c) (i .total) (rest-part (decision q false) w (ready w f)
+      (size q false z)) (sees-lower q r w (0 ∷ c) g) (i .going)
 
 pub qCoder : Coder qWriter qReader Sized
 qCoder =

@@ -1,4 +1,5 @@
--- There is one right reader: among all bands of that width and height it finds the one that is written as those bytes. Assumes nothing.
+-- There is one right reader: among all bands of that width and height it finds the one that is written as those bytes.
+-- Assumes nothing.
 use mathlib.Core.Path.{_≡_, refl, sym, ap, ap₂, _∙_, fun-ext}
 use mathlib.Core.Bool.{Bool, true, false, _&&_}
 use mathlib.Core.Option.{Option, some, none}
@@ -25,7 +26,8 @@ sameBytes (x ∷ a) (y ∷ b) = eqb x y && sameBytes a b
 
 -- a padded band that is written as the code
 unfoldable pub writtenSo : ℕ → ℕ → List ℕ → List ℕ → List ℕ → List ℕ → Bool
-writtenSo width rows table last code band = bandPadded width band rows && sameBytes (written width rows table last band .code) code
+writtenSo width rows table last code band = bandPadded width band rows && sameBytes
+    (written width rows table last band .code) code
 
 -- the band that is found, among all lists of that many bytes
 unfoldable pub readBack : ℕ → ℕ → List ℕ → List ℕ → List ℕ → Option (List ℕ)
@@ -47,18 +49,24 @@ bytes-same (x ∷ a) = ap₂ _&&_ (is-true (eqb x x) (eqb-refl x)) (bytes-same a
 
 -- what is found is right, in demand 2's words
 module _ (width rows : ℕ) (table last code : List ℕ) where
-  taken : (o : Option (List ℕ)) → Fits 255 (rows * rowBytes width) (writtenSo width rows table last code) o → Right width rows table last code o
+  taken : (o : Option (List ℕ)) → Fits 255 (rows * rowBytes width) (writtenSo width rows table last code) o
+      → Right width rows table last code o
   unfolding writtenSo
   taken (some l) a =
-      let k = both (bandPadded width l rows) (sameBytes (written width rows table last l .code) code) (a .2) in
-      (record { size = a .0; padded = k .0; octets = a .1 }, same-bytes (written width rows table last l .code) code (k .1))
+      let k = both (bandPadded width l rows) (sameBytes (written width rows table last l .code) code) (a .2) in (
+        record { size = a .0; padded = k .0; octets = a .1 },
+        same-bytes (written width rows table last l .code)
+            code (k .1),
+      )
   taken none a =
-      λ l i e. a l (i .size) (i .octets) (ap₂ _&&_ (i .padded) (ap (λ (c : List ℕ). sameBytes c code) e ∙ bytes-same code))
+      λ l i e. a l (i .size) (i .octets) (ap₂ _&&_ (i .padded) (ap (λ (c : List ℕ). sameBytes c code) e
+      ∙ bytes-same code))
 
   -- what it finds is right
   pub right : Right width rows table last code (readBack width rows table last code)
   unfolding readBack
-  right = taken (search 255 (rows * rowBytes width) (writtenSo width rows table last code)) (found 255 (rows * rowBytes width)
+  right = taken (search 255 (rows * rowBytes width) (writtenSo width rows table last code))
+      (found 255 (rows * rowBytes width)
       (writtenSo width rows table last code))
 
 -- the right reader: it finds the band that is written so
@@ -76,13 +84,16 @@ one-band zero rows table last a b ia ib e = empty a b (ia .size ∙ mul-zero row
 one-band (suc w) rows table last a b ia ib e = no-two (suc w) rows table last a b (omega arith) ia ib e
 
 -- what is right of a code is what is found
-pub right-found : (width rows : ℕ) (table last code : List ℕ) (f : Option (List ℕ)) → Right width rows table last code f → f
+pub right-found : (width rows : ℕ) (table last code : List ℕ) (f : Option (List ℕ))
+    → Right width rows table last code f → f
     ≡ readBack width rows table last code
 right-found width rows table last code f r =
-    one-right width rows table last code (one-band width rows table last) f (readBack width rows table last code) r (right width rows table last code)
+    one-right width rows table last code (one-band width rows table last) f (readBack width rows table last code) r
+    (right width rows table last code)
 
 -- any right reader finds what this one finds
 pub one-reader : (R : Reader) → R .finds ≡ readBack
 one-reader R =
-    fun-ext (λ width. fun-ext (λ rows. fun-ext (λ table. fun-ext (λ last. fun-ext (λ code. right-found width rows table last code
+    fun-ext (λ width. fun-ext
+    (λ rows. fun-ext (λ table. fun-ext (λ last. fun-ext (λ code. right-found width rows table last code
     (R .finds width rows table last code) (R .right width rows table last code))))))

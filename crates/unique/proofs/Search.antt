@@ -52,7 +52,8 @@ module _ (top : ℕ) where
     join m none (some l) a b = b
     join m none none a b = λ v l h. go v l h (decLt v m)
       where
-        go : (v : ℕ) (l : List ℕ) → v < suc m → Dec (v < m) → length l ≡ n → ((i : ℕ) → getD l i 0 ≤ top) → test (v ∷ l) ≡ true → ⊥
+        go : (v : ℕ) (l : List ℕ) → v < suc m → Dec (v < m) → length l ≡ n → ((i : ℕ) → getD l i 0 ≤ top)
+            → test (v ∷ l) ≡ true → ⊥
         go v l h (yes k) = a v l k
         go v l h (no k) = let e : v ≡ m = omega arith in λ s o t. b l s o (ap (λ (w : ℕ). test (w ∷ l)) (sym e) ∙ t)
 
@@ -93,7 +94,9 @@ module _ (top : ℕ) where
           all : (l : List ℕ) → length l ≡ 0 → ((i : ℕ) → getD l i 0 ≤ top) → test l ≡ true → ⊥
           all [] s o t = no-way (sym t ∙ e)
           all (v ∷ l) s o t = absurd (omega arith)
-  found (suc n) test = whole n test (values (suc top) f) (below n test (suc top) f (λ v h. lead n test v (search top n (λ l. test (v ∷ l))) (omega arith) (found n (λ l. test (v ∷ l)))))
+  found (suc n) test = whole n test (values (suc top) f)
+      (below n test (suc top) f (λ v h. lead n test v (search top n (λ l. test (v ∷ l))) (omega arith)
+      (found n (λ l. test (v ∷ l)))))
     where
       f : ℕ → Option (List ℕ)
       f v = before v (search top n (λ l. test (v ∷ l)))

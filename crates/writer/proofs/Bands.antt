@@ -37,18 +37,21 @@ use Rattle.writer.specs.Bands.{BandAt, opened}
 module _ (width : ℕ) where
   -- the bytes before stay before
   pub behind-through : (ps : List ℕ) (m : Page) (xs : List ℕ) (w : Registers)
-      → through width (stageOf width m (behind xs w)) ps ≡ stageOf width (through width (stageOf width m w) ps .model) (behind xs (through width (stageOf width m w) ps .writer))
+      → through width (stageOf width m (behind xs w)) ps ≡ stageOf width (through width (stageOf width m w) ps .model)
+      (behind xs (through width (stageOf width m w) ps .writer))
   unfolding after
   behind-through [] m xs w = refl
   behind-through (p ∷ ps) m xs w =
       let q : ℕ = size qScheme width m in
       let e : Bool = eqb p (sense qScheme width m) in
       let s : Stage (qPage width) qWriter = step (qPage width) qWriter (stageOf width m w) p in
-      ap (λ (v : Registers). through width (stageOf width (s .model) v) ps) (behind-pel (decision q e) xs w) ∙ behind-through ps (s .model) xs (s .writer)
+      ap (λ (v : Registers). through width (stageOf width (s .model) v) ps) (behind-pel (decision q e) xs w)
+      ∙ behind-through ps (s .model) xs (s .writer)
 
   -- ---- rows
   module _ (last band t₀ out₀ : List ℕ) where
-    pub band-start : (c : Coder) → lift c [] ≡ start → LawfulTable t₀ → (BandAt width last band t₀ out₀) last t₀ c out₀ 0 0
+    pub band-start : (c : Coder) → lift c [] ≡ start → LawfulTable t₀ → (BandAt width last band t₀ out₀) last
+        t₀ c out₀ 0 0
     unfolding bandTo after stores
     band-start c e l =
         record {
@@ -63,35 +66,47 @@ module _ (width : ℕ) where
         }
 
     -- one row more
-    module _ (above t : List ℕ) (c : Coder) (out : List ℕ) (at y : ℕ) (row t′ : List ℕ) (c′ : Coder) (out′ : List ℕ) (at′ : ℕ) (b : (BandAt width last band t₀ out₀) above t c out at y)
-        (some : 1 ≤ width) (e : row ≡ rowAt width band y) (r : RowDone width (pelsTo above width) row t c out at t′ c′ out′ at′) where
+    module _ (above t : List ℕ) (c : Coder) (out : List ℕ) (at y : ℕ) (row t′ : List ℕ) (c′ : Coder) (out′ : List ℕ)
+        (at′ : ℕ) (b : (BandAt width last band t₀ out₀) above t c out at y)
+        (some : 1 ≤ width) (e : row ≡ rowAt width band y) (r : RowDone width (pelsTo above width) row t c out at t′ c′
+        out′ at′) where
       abbrev under : Page
       under = record { table = t; above = pelsTo above width; this = [] }
 
       abbrev then : Page
       then = record { table = t′; above = pelsTo row width; this = [] }
 
-      from-row : through width (stageOf width under (lift c [])) (pelsTo row width) ≡ stageOf width then (lift c′ (r .settled))
-      from-row = subst (λ (m : Page). through width (stageOf width m (lift c [])) (pelsTo row width) ≡ stageOf width then (lift c′ (r .settled))) (page-within width t (pelsTo above width) [] some) (r .stage)
+      from-row : through width (stageOf width under (lift c [])) (pelsTo row width) ≡ stageOf width then
+          (lift c′ (r .settled))
+      from-row = subst (λ (m : Page). through width (stageOf width m (lift c [])) (pelsTo row width) ≡ stageOf
+          width then (lift c′ (r .settled))) (page-within width t (pelsTo above width) [] some) (r .stage)
 
-      from-band : through width (stageOf width under (lift c (b .settled))) (pelsTo row width) ≡ stageOf width then (lift c′ (b .settled ++ r .settled))
+      from-band : through width (stageOf width under (lift c (b .settled))) (pelsTo row width) ≡ stageOf width then
+          (lift c′ (b .settled ++ r .settled))
       from-band =
-          ap (λ (w : Registers). through width (stageOf width under w) (pelsTo row width)) (lift-behind c (b .settled)) ∙ behind-through (pelsTo row width) under (b .settled) (lift c [])
-          ∙ ap (λ (s : Stage (qPage width) qWriter). stageOf width (s .model) (behind (b .settled) (s .writer))) from-row
+          ap (λ (w : Registers). through width (stageOf width under w) (pelsTo row width)) (lift-behind c (b .settled))
+          ∙ behind-through (pelsTo row width) under (b .settled) (lift c [])
+          ∙ ap (λ (s : Stage (qPage width) qWriter). stageOf width (s .model) (behind (b .settled) (s .writer)))
+          from-row
 
-      next-stage : through width (opened width last band t₀ out₀) (bandTo width band (suc y)) ≡ stageOf width then (lift c′ (b .settled ++ r .settled))
+      next-stage : through width (opened width last band t₀ out₀) (bandTo width band (suc y)) ≡ stageOf width then
+          (lift c′ (b .settled ++ r .settled))
       unfolding bandTo
       next-stage =
-          after-append (qPage width) qWriter (bandTo width band y) (pelsTo (rowAt width band y) width) (opened width last band t₀ out₀)
-          ∙ ap₂ (λ (s : Stage (qPage width) qWriter) (l : List ℕ). through width s (pelsTo l width)) (b .stage) (sym e) ∙ from-band
+          after-append (qPage width) qWriter (bandTo width band y) (pelsTo (rowAt width band y) width)
+          (opened width last band t₀ out₀)
+          ∙ ap₂ (λ (s : Stage (qPage width) qWriter) (l : List ℕ). through width s (pelsTo l width)) (b .stage) (sym e)
+          ∙ from-band
 
       pub band-again : width ≤ maxWidth → (BandAt width last band t₀ out₀) row t′ c′ out′ at′ (suc y)
       band-again k =
-          let n : length (b .settled ++ r .settled) ≡ length (b .settled) + length (r .settled) = length-append (b .settled) (r .settled) in
+          let n : length (b .settled ++ r .settled) ≡ length (b .settled) + length (r .settled) =
+          length-append (b .settled) (r .settled) in
           record {
             settled = b .settled ++ r .settled;
             stage = next-stage;
-            stored = r .stored ∙ ap₂ (λ (o : List ℕ) (a : ℕ). stores o a (r .settled)) (b .stored) (b .place ∙ sym (zero-add (length (b .settled)))) ∙ stores-append out₀ 0 (b .settled) (r .settled);
+            stored = r .stored ∙ ap₂ (λ (o : List ℕ) (a : ℕ). stores o a (r .settled)) (b .stored)
+                (b .place ∙ sym (zero-add (length (b .settled)))) ∙ stores-append out₀ 0 (b .settled) (r .settled);
             place = omega (arith, r .place, b .place);
             few = omega (arith, r .few, b .few);
             lawful = r .lawful;
@@ -101,15 +116,18 @@ module _ (width : ℕ) where
 
 -- ---- the end of a band
 -- the last bytes come after those that were settled
-pub finish-behind : (c : Coder) (xs lasts : List ℕ) → lasts ≡ bytes (finish (lift c [])) → bytes (finish (lift c xs)) ≡ xs ++ lasts
+pub finish-behind : (c : Coder) (xs lasts : List ℕ) → lasts ≡ bytes (finish (lift c [])) → bytes (finish (lift c xs))
+    ≡ xs ++ lasts
 finish-behind c xs lasts e =
-    ap (λ (w : Registers). bytes (finish w)) (lift-behind c xs) ∙ ap bytes (behind-finish xs (lift c [])) ∙ bytes-behind xs (finish (lift c [])) ∙ ap (λ (l : List ℕ). xs ++ l) (sym e)
+    ap (λ (w : Registers). bytes (finish w)) (lift-behind c xs) ∙ ap bytes (behind-finish xs (lift c []))
+    ∙ bytes-behind xs (finish (lift c [])) ∙ ap (λ (l : List ℕ). xs ++ l) (sym e)
 
 written-last : (width rows : ℕ) (t last band : List ℕ) → written width rows t last band .last ≡ lastRow width rows band
 unfolding written
 written-last width rows t last band = refl
 
-module _ (width rows : ℕ) (last band t₀ out₀ above t : List ℕ) (c : Coder) (out : List ℕ) (at : ℕ) (b : BandAt width last band t₀ out₀ above t c out at rows)
+module _ (width rows : ℕ) (last band t₀ out₀ above t : List ℕ) (c : Coder) (out : List ℕ) (at : ℕ)
+    (b : BandAt width last band t₀ out₀ above t c out at rows)
     (lasts : List ℕ) (e : lasts ≡ bytes (finish (lift c []))) where
   -- every byte, the zero before the code first
   abbrev pub all : List ℕ
@@ -117,7 +135,8 @@ module _ (width rows : ℕ) (last band t₀ out₀ above t : List ℕ) (c : Code
 
   pub end-code : written width rows t₀ last band .code ≡ drop 1 all
   unfolding written code
-  end-code = ap (λ (s : Stage (qPage width) qWriter). code (s .writer)) (b .stage) ∙ ap (drop 1) (finish-behind c (b .settled) lasts e)
+  end-code = ap (λ (s : Stage (qPage width) qWriter). code (s .writer)) (b .stage) ∙ ap (drop 1)
+      (finish-behind c (b .settled) lasts e)
 
   pub end-shifts : written width rows t₀ last band .shifts ≡ c .interval .count
   unfolding written
@@ -133,10 +152,12 @@ module _ (width rows : ℕ) (last band t₀ out₀ above t : List ℕ) (c : Code
     W = written width rows t₀ last band
 
     end-length : n₁ - 1 ≡ length (W .code)
-    end-length = sym (ap length end-code ∙ length-drop 1 all ∙ ap (λ (k : ℕ). k - 1) (length-append (b .settled) lasts ∙ ap (λ (k : ℕ). k + length lasts) (sym (b .place)) ∙ sym place))
+    end-length = sym (ap length end-code ∙ length-drop 1 all ∙ ap (λ (k : ℕ). k - 1) (length-append (b .settled) lasts
+        ∙ ap (λ (k : ℕ). k + length lasts) (sym (b .place)) ∙ sym place))
 
     end-stored : out₁ ≡ stores out₀ 0 all
-    end-stored = stored ∙ ap₂ (λ (o : List ℕ) (k : ℕ). stores o k lasts) (b .stored) (b .place ∙ sym (zero-add (length (b .settled)))) ∙ stores-append out₀ 0 (b .settled) lasts
+    end-stored = stored ∙ ap₂ (λ (o : List ℕ) (k : ℕ). stores o k lasts) (b .stored)
+        (b .place ∙ sym (zero-add (length (b .settled)))) ∙ stores-append out₀ 0 (b .settled) lasts
 
     pub end-same : length out₁ ≡ length out₀
     end-same = ap length end-stored ∙ length-stores out₀ 0 all
@@ -145,13 +166,30 @@ module _ (width rows : ℕ) (last band t₀ out₀ above t : List ℕ) (c : Code
     unfolding hasRoom
     room-is = rw (end-length, end-same)
 
-    pub with-room : (leb (n₁ - 1) (length out₁) && leb (n₁ - 1) maxCode) ≡ true → (table : Table) (row : List ℕ) → row ≡ lastRow width rows band
-        → (record { room = true; length = n₁ - 1; shifts = c .interval .count; table = record { entries = t }; last = row } ≡ wroteAnswer W table last out₀) × (out₁ ≡ wroteOut W out₀)
+    pub with-room : (leb (n₁ - 1) (length out₁) && leb (n₁ - 1) maxCode) ≡ true → (table : Table) (row : List ℕ)
+        → row ≡ lastRow width rows band
+        → (record {
+          room = true;
+          length = n₁ - 1;
+          shifts = c .interval .count;
+          table = record { entries = t };
+          last =
+              row;
+        } ≡ wroteAnswer W table last out₀) × (out₁ ≡ wroteOut W out₀)
     unfolding wroteAnswer wroteOut
     with-room h table row r =
         let k : hasRoom (W .code) out₀ ≡ true = room-is ∙ h in (
-          rw k (λ i. record { room = true; length = end-length i; shifts = sym end-shifts i; table = record { entries = sym end-table i }; last = last-is r i }),
-          rw k (end-stored ∙ stores-fit out₀ all (subst (λ (x : ℕ). x ≤ length out₀) (end-length ∙ ap length end-code) (omega (arith, end-same, leb-true (n₁ - 1) (length out₁) (left-of h)))) ∙ ap (λ (x : List ℕ). inFront x out₀) (sym end-code)),
+          rw k (λ i. record {
+            room = true;
+            length = end-length i;
+            shifts = sym end-shifts i;
+            table =
+                record { entries = sym end-table i };
+            last = last-is r i;
+          }),
+          rw k (end-stored ∙ stores-fit out₀ all (subst (λ (x : ℕ). x ≤ length out₀) (end-length ∙ ap length end-code)
+              (omega (arith, end-same, leb-true (n₁ - 1) (length out₁) (left-of h))))
+              ∙ ap (λ (x : List ℕ). inFront x out₀) (sym end-code)),
         )
       where
         last-is : row ≡ lastRow width rows band → row ≡ W .last
@@ -161,7 +199,8 @@ module _ (width rows : ℕ) (last band t₀ out₀ above t : List ℕ) (c : Code
         left-of h = both (leb (n₁ - 1) (length out₁)) (leb (n₁ - 1) maxCode) h .0
 
     pub without-room : (leb (n₁ - 1) (length out₁) && leb (n₁ - 1) maxCode) ≡ false → (table : Table)
-        → (record { room = false; length = 0; shifts = 0; table = table; last = last } ≡ wroteAnswer W table last out₀) × (cleared out₁ ≡ wroteOut W out₀)
+        → (record { room = false; length = 0; shifts = 0; table = table; last = last } ≡ wroteAnswer W table last out₀)
+        × (cleared out₁ ≡ wroteOut W out₀)
     unfolding wroteAnswer wroteOut cleared
     without-room h table = let k : hasRoom (W .code) out₀ ≡ false = room-is ∙ h in (rw k, rw (k, end-same))
 
@@ -183,8 +222,10 @@ module _ (width : ℕ) (band : List ℕ) (bytes′ : ℕ) (is : bytes′ ≡ row
       less : (y : ℕ) → y ≡ suc y - 1
       less y = omega arith
 
-  pub row-before : (y from : ℕ) → 1 ≤ y → from ≡ y * bytes′ → take (from - (from - bytes′)) (drop (from - bytes′) band) ≡ rowAt width band (y - 1)
-  row-before y from h e = part-at (from - (from - bytes′)) (from - bytes′) (y - 1) (omega (arith, split y h)) (omega (arith, split y h))
+  pub row-before : (y from : ℕ) → 1 ≤ y → from ≡ y * bytes′ → take (from - (from - bytes′)) (drop (from - bytes′) band)
+      ≡ rowAt width band (y - 1)
+  row-before y from h e = part-at (from - (from - bytes′)) (from - bytes′) (y - 1) (omega (arith, split y h))
+      (omega (arith, split y h))
 
   pub rows-fit : (rows y : ℕ) → y < rows → rows ≤ maxRows → width ≤ maxWidth → length band ≡ rows * rowBytes width
       → (y * bytes′ + bytes′ ≤ length band) × (length band ≤ maxBand)
@@ -211,19 +252,29 @@ pub sizes : (width y bytes′ len : ℕ) → bytes′ ≡ rowBytes width → wid
 sizes width y bytes′ len is w h k l =
     let m : y * bytes′ ≡ y * rowBytes width = ap (λ (n : ℕ). y * n) is in
     let f : y * bytes′ ≤ maxRows * bytes′ = mul-le-mul-right bytes′ (omega arith) in
-    record { inside = omega arith; least = omega (arith, mul-le-mul-right bytes′ h); few = omega arith; narrow = omega arith }
+    record {
+      inside = omega arith;
+      least = omega (arith, mul-le-mul-right bytes′ h);
+      few = omega arith;
+      narrow =
+          omega arith;
+    }
 
 -- a part of that many bytes is wide enough
-pub part-wide : (width bytes′ n m : ℕ) (band : List ℕ) → bytes′ ≡ rowBytes width → n ≡ bytes′ → m + bytes′ ≤ length band → width ≤ 8 * length (take n (drop m band))
+pub part-wide : (width bytes′ n m : ℕ) (band : List ℕ) → bytes′ ≡ rowBytes width → n ≡ bytes′
+    → m + bytes′ ≤ length band → width ≤ 8 * length (take n (drop m band))
 part-wide width bytes′ n m band is e h = simp (length-take, length-drop) (omega arith)
 
 -- the first row, under the page's last
-pub band-first : (width : ℕ) (last band t₀ out₀ : List ℕ) (bytes′ : ℕ) (c : Coder) (t′ : List ℕ) (c′ : Coder) (out′ : List ℕ) (at′ : ℕ)
+pub band-first : (width : ℕ) (last band t₀ out₀ : List ℕ) (bytes′ : ℕ) (c : Coder) (t′ : List ℕ) (c′ : Coder)
+    (out′ : List ℕ) (at′ : ℕ)
     → bytes′ ≡ rowBytes width → 1 ≤ width → width ≤ maxWidth → lift c [] ≡ start → LawfulTable t₀
-    → RowDone width (pelsTo last width) (take bytes′ band) t₀ c out₀ 0 t′ c′ out′ at′ → BandAt width last band t₀ out₀ (rowAt width band 0) t′ c′ out′ at′ 1
+    → RowDone width (pelsTo last width) (take bytes′ band) t₀ c out₀ 0 t′ c′ out′ at′ → BandAt width last band t₀ out₀
+    (rowAt width band 0) t′ c′ out′ at′ 1
 band-first width last band t₀ out₀ bytes′ c t′ c′ out′ at′ is h k s l r =
     let e : take bytes′ band ≡ rowAt width band 0 = row-first width band bytes′ is in
-    band-again width last band t₀ out₀ last t₀ c out₀ 0 0 (rowAt width band 0) t′ c′ out′ at′ (band-start width last band t₀ out₀ c s l) h refl
+    band-again width last band t₀ out₀ last t₀ c out₀ 0 0 (rowAt width band 0) t′ c′ out′ at′
+    (band-start width last band t₀ out₀ c s l) h refl
     (subst (λ (x : List ℕ). RowDone width (pelsTo last width) x t₀ c out₀ 0 t′ c′ out′ at′) e r) k
 
 pub start-count : (c : Coder) → lift c [] ≡ start → c .interval .count ≡ 0
@@ -232,22 +283,29 @@ start-count c e = ap (λ (w : Registers). w .interval .count) e
 -- what the rows after the first keep, whatever came before
 abbrev pub RowsKeep : ℕ → List ℕ → Run → List ℕ → Run → List ℕ → ℕ → Type 0
 RowsKeep width band run₀ out₀ run out y =
-    (last t o : List ℕ) → BandAt width last band t o (rowAt width band 0) (run₀ .table .entries) (run₀ .coder) out₀ (run₀ .at) 1
+    (last t o : List ℕ) → BandAt width last band t o (rowAt width band 0) (run₀ .table .entries) (run₀ .coder) out₀
+    (run₀ .at) 1
     → BandAt width last band t o (rowAt width band (y - 1)) (run .table .entries) (run .coder) out (run .at) y
 
-pub band-length : (width : ℕ) (last band t₀ out₀ above t : List ℕ) (c : Coder) (out : List ℕ) (at y : ℕ) → BandAt width last band t₀ out₀ above t c out at y → length out ≡ length out₀
+pub band-length : (width : ℕ) (last band t₀ out₀ above t : List ℕ) (c : Coder) (out : List ℕ) (at y : ℕ)
+    → BandAt width last band t₀ out₀ above t c out at y → length out ≡ length out₀
 band-length width last band t₀ out₀ above t c out at y b = ap length (b .stored) ∙ length-stores out₀ 0 (b .settled)
 
 -- the row n is written, under the row before it
 abbrev pub NextDone : ℕ → List ℕ → Run → List ℕ → Run → List ℕ → ℕ → Type 0
 NextDone width band run out run′ out′ n =
-    RowDone width (pelsTo (rowAt width band (n - 1)) width) (rowAt width band n) (run .table .entries) (run .coder) out (run .at)
+    RowDone width (pelsTo (rowAt width band (n - 1)) width) (rowAt width band n) (run .table .entries) (run .coder)
+    out (run .at)
     (run′ .table .entries) (run′ .coder) out′ (run′ .at)
 
 -- one row more: k is the row that is due
-pub keep-next : (width : ℕ) (band : List ℕ) (run₀ run run′ : Run) (out₀ out out′ : List ℕ) (y k : ℕ) → 1 ≤ width → width ≤ maxWidth → 1 ≤ y
-    → RowsKeep width band run₀ out₀ run out y → NextDone width band run out run′ out′ k → k ≡ y → RowsKeep width band run₀ out₀ run′ out′ (y + 1)
+pub keep-next : (width : ℕ) (band : List ℕ) (run₀ run run′ : Run) (out₀ out out′ : List ℕ) (y k : ℕ) → 1 ≤ width
+    → width ≤ maxWidth → 1 ≤ y
+    → RowsKeep width band run₀ out₀ run out y → NextDone width band run out run′ out′ k → k ≡ y
+    → RowsKeep width band run₀ out₀ run′ out′ (y + 1)
 keep-next width band run₀ run run′ out₀ out out′ y k h w j r d e last t o b =
-    subst₂ (λ (n m : ℕ). BandAt width last band t o (rowAt width band n) (run′ .table .entries) (run′ .coder) out′ (run′ .at) m) (omega arith) (sym (add-one y))
-    (band-again width last band t o (rowAt width band (y - 1)) (run .table .entries) (run .coder) out (run .at) y (rowAt width band y) (run′ .table .entries) (run′ .coder) out′ (run′ .at)
+    subst₂ (λ (n m : ℕ). BandAt width last band t o (rowAt width band n) (run′ .table .entries) (run′ .coder) out′
+    (run′ .at) m) (omega arith) (sym (add-one y))
+    (band-again width last band t o (rowAt width band (y - 1)) (run .table .entries) (run .coder) out (run .at) y
+    (rowAt width band y) (run′ .table .entries) (run′ .coder) out′ (run′ .at)
     (r last t o b) h refl (subst (NextDone width band run out run′ out′) e d) w)

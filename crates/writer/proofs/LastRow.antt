@@ -23,7 +23,8 @@ copy-more pels row from i e h l =
     ap₂ (λ (r : List ℕ) (b : ℕ). set r i b) (e ∙ ap (λ (k : ℕ). take i src ++ replicate k 0) (one-more i h)) v
     ∙ set-at (take i src) 0 (replicate (lastBytes - 1 - i) 0) (getD src i 0) i (length-take-le i src (omega arith))
     ∙ sym (append-assoc (take i src) (getD src i 0 ∷ []) (replicate (lastBytes - 1 - i) 0))
-    ∙ ap₂ (λ (r : List ℕ) (k : ℕ). r ++ replicate k 0) (sym (take-suc src i 0 n) ∙ ap (λ (k : ℕ). take k src) (sym (add-one i))) (less i)
+    ∙ ap₂ (λ (r : List ℕ) (k : ℕ). r ++ replicate k 0) (sym (take-suc src i 0 n) ∙ ap (λ (k : ℕ). take k src)
+    (sym (add-one i))) (less i)
   where
     one-more : (i : ℕ) → i < lastBytes → lastBytes - i ≡ suc (lastBytes - 1 - i)
     one-more i h = omega arith
@@ -31,7 +32,9 @@ copy-more pels row from i e h l =
     less : (i : ℕ) → lastBytes - 1 - i ≡ lastBytes - (i + 1)
     less i = omega arith
 
-pub copy-end : (pels row : List ℕ) (width rows bytes from i : ℕ) → bytes ≡ rowBytes width → from ≡ (rows - 1) * bytes → i ≡ bytes → Copied pels from row i → row ≡ lastRow width rows pels
+pub copy-end : (pels row : List ℕ) (width rows bytes from i : ℕ) → bytes ≡ rowBytes width → from ≡ (rows - 1) * bytes
+    → i ≡ bytes → Copied pels from row i → row ≡ lastRow width rows pels
 unfolding lastRow
 copy-end pels row width rows bytes from i b f e c =
-    c ∙ ap₂ (λ (n m : ℕ). take n (drop m pels) ++ replicate (lastBytes - n) 0) (e ∙ b) (f ∙ ap (λ (k : ℕ). (rows - 1) * k) b)
+    c ∙ ap₂ (λ (n m : ℕ). take n (drop m pels) ++ replicate (lastBytes - n) 0) (e ∙ b)
+    (f ∙ ap (λ (k : ℕ). (rows - 1) * k) b)

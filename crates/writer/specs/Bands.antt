@@ -23,7 +23,8 @@ module _ (width : ℕ) where
     -- y rows are written; `above` is the last of them
     pub record BandAt (above t : List ℕ) (c : Coder) (out : List ℕ) (at y : ℕ) : Type 0 where
       pub settled : List ℕ
-      pub stage : through width opened (bandTo width band y) ≡ stageOf width (record { table = t; above = pelsTo above width; this = [] }) (lift c settled)
+      pub stage : through width opened (bandTo width band y) ≡ stageOf width
+          (record { table = t; above = pelsTo above width; this = [] }) (lift c settled)
       pub stored : out ≡ stores out₀ 0 settled
       pub place : at ≡ length settled
       pub few : length settled ≤ 2 * maxWidth * y

@@ -31,10 +31,13 @@ pub struct Wrote {
 
 // The row y of a band, under the row before it.
 pub fn write_next(pels: &[u8], y: usize, width: usize, run: Run, out: &mut [u8]) -> Run
-    requires { ⌜ (1 ≤ width) × (width ≤ maxWidth) × (1 ≤ y) × (y < maxRows) × (y * rowBytes width + rowBytes width ≤ length (now pels))
+    requires { ⌜ (1 ≤ width) × (width ≤ maxWidth) × (1 ≤ y) × (y < maxRows)
+        × (y * rowBytes width + rowBytes width ≤ length (now pels))
         × LawfulTable (run .table .entries) × Ready (lift (run .coder) [])
         × (run .coder .interval .count + 12 * maxWidth ≤ maxShifts) × (run .at + 2 * maxWidth ≤ farthest) ⌝ }
-    ensures { λ r. ⌜ RowDone width (pelsTo (rowAt width (now (pels .entry)) (y - 1)) width) (rowAt width (now (pels .entry)) y) (run .table .entries) (run .coder) (now (out .entry)) (run .at) (r .table .entries) (r .coder) (now (out .exit)) (r .at) ⌝ }
+    ensures { λ r. ⌜ RowDone width (pelsTo (rowAt width (now (pels .entry)) (y - 1)) width)
+        (rowAt width (now (pels .entry)) y) (run .table .entries) (run .coder) (now (out .entry)) (run .at)
+        (r .table .entries) (r .coder) (now (out .exit)) (r .at) ⌝ }
 {
     let bytes = template::row_bytes(width);
     let from = y * bytes;
@@ -52,9 +55,11 @@ pub fn write_rows(
     table: Table,
     out: &mut [u8],
 ) -> Run
-    requires { ⌜ (1 ≤ width) × (width ≤ maxWidth) × (1 ≤ rows) × (rows ≤ maxRows) × (length (now pels) ≡ rows * rowBytes width)
+    requires { ⌜ (1 ≤ width) × (width ≤ maxWidth) × (1 ≤ rows) × (rows ≤ maxRows)
+        × (length (now pels) ≡ rows * rowBytes width)
         × LawfulTable (table .entries) ⌝ }
-    ensures { λ r. ⌜ BandAt width last (now (pels .entry)) (table .entries) (now (out .entry)) (rowAt width (now (pels .entry)) (rows - 1)) (r .table .entries) (r .coder) (now (out .exit)) (r .at) rows ⌝ }
+    ensures { λ r. ⌜ BandAt width last (now (pels .entry)) (table .entries) (now (out .entry))
+        (rowAt width (now (pels .entry)) (rows - 1)) (r .table .entries) (r .coder) (now (out .exit)) (r .at) rows ⌝ }
 {
     let bytes = template::row_bytes(width);
     let coder = Coder::start();
@@ -74,7 +79,8 @@ pub fn write_rows(
 
 // The last row of a band, in the room that a page has for it.
 pub fn last_row(pels: &[u8], width: usize, rows: usize) -> [u8; ROW]
-    requires { ⌜ (1 ≤ width) × (width ≤ maxWidth) × (1 ≤ rows) × (rows ≤ maxRows) × (length (now pels) ≡ rows * rowBytes width) ⌝ }
+    requires { ⌜ (1 ≤ width) × (width ≤ maxWidth) × (1 ≤ rows) × (rows ≤ maxRows)
+        × (length (now pels) ≡ rows * rowBytes width) ⌝ }
     ensures { λ r. ⌜ r ≡ lastRow width rows (now (pels .entry)) ⌝ }
 {
     let bytes = template::row_bytes(width);
@@ -104,10 +110,13 @@ pub fn write_band(
     pels: &[u8],
     out: &mut [u8],
 ) -> Wrote
-    requires { ⌜ (1 ≤ width) × (width ≤ maxWidth) × (1 ≤ rows) × (rows ≤ maxRows) × (length (now pels) ≡ rows * rowBytes width)
+    requires { ⌜ (1 ≤ width) × (width ≤ maxWidth) × (1 ≤ rows) × (rows ≤ maxRows)
+        × (length (now pels) ≡ rows * rowBytes width)
         × LawfulTable (table .entries) ⌝ }
-    ensures { λ r. ⌜ (r ≡ wroteAnswer (written width rows (table .entries) last (now (pels .entry))) table last (now (out .entry)))
-        × (now (out .exit) ≡ wroteOut (written width rows (table .entries) last (now (pels .entry))) (now (out .entry))) ⌝ }
+    ensures { λ r. ⌜ (r ≡ wroteAnswer (written width rows (table .entries) last (now (pels .entry))) table last
+        (now (out .entry)))
+        × (now (out .exit) ≡ wroteOut (written width rows (table .entries) last (now (pels .entry)))
+        (now (out .entry))) ⌝ }
 {
     let run = write_rows(pels, last, width, rows, table, out);
     let coder = run.coder;

@@ -28,7 +28,15 @@ use Rattle.refusals.proofs.Refusing.{pagedTo, StoodTo, here, past, at-end}
 
 -- what writing a band gives, with room and without
 abbrev pub withRoom : Written → Wrote
-withRoom w = record { room = true; length = length (w .code); shifts = w .shifts; table = record { entries = w .table }; last = w .last }
+withRoom w =
+    record {
+      room = true;
+      length = length (w .code);
+      shifts = w .shifts;
+      table = record { entries = w .table };
+      last =
+          w .last;
+    }
 
 abbrev withoutRoom : Table → List ℕ → Wrote
 withoutRoom table last = record { room = false; length = 0; shifts = 0; table = table; last = last }
@@ -47,12 +55,14 @@ onPage ask pels out p =
 
 pub write-number : (d : Desk) (ask : Ask) (pels out : List ℕ)
     → number readBack d (writes ask pels out)
-    ≡ refusal (pagedTo d (ask .key) (within 1 (ask .rows) maxRows) 1 (onPage ask pels out (pageOf (stand d (ask .key)))))
+    ≡ refusal (pagedTo d (ask .key) (within 1 (ask .rows) maxRows) 1
+    (onPage ask pels out (pageOf (stand d (ask .key)))))
 unfolding number tests stand
 write-number d ask pels out = refl
 
 -- ---- on the page
-module _ (d : Desk) (ask : Ask) (pels out : List ℕ) (i : ℕ) (t : StoodTo d (ask .key) (within 1 (ask .rows) maxRows) 1 i) (page : Page)
+module _ (d : Desk) (ask : Ask) (pels out : List ℕ) (i : ℕ) (t : StoodTo d (ask .key) (within 1 (ask .rows) maxRows) 1
+    i) (page : Page)
     (at : pageOf (stand d (ask .key)) ≡ page) where
   on : number readBack d (writes ask pels out) ≡ refusal (onPage ask pels out page)
   on = write-number d ask pels out ∙ t .rest _ ∙ ap (λ (p : Page). refusal (onPage ask pels out p)) at

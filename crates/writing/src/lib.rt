@@ -25,8 +25,10 @@ pub fn write<'a, 'b, 'c>(
     out: &'c mut [u8],
 ) -> Reply
     requires { ⌜ Sized (now working) (now rows) (now learned) ⌝ }
-    ensures { λ r. ⌜ Serves (partsOf book (now (working .entry)) (now (rows .entry)) (now (learned .entry))) (writes ask (now (pels .entry))
-        (now (out .entry))) (r .answer) (partsOf (r .book) (now (working .exit)) (now (rows .exit)) (now (learned .exit))) (now (out .exit)) ⌝ }
+    ensures { λ r. ⌜ Serves (partsOf book (now (working .entry)) (now (rows .entry)) (now (learned .entry)))
+        (writes ask (now (pels .entry))
+        (now (out .entry))) (r .answer) (partsOf (r .book) (now (working .exit)) (now (rows .exit))
+        (now (learned .exit))) (now (out .exit)) ⌝ }
 {
     let good = lawful::lawful_desk(book, working, rows, learned);
     let key = ask.key;

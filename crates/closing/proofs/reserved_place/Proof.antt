@@ -9,7 +9,8 @@ use Rattle.closing.proofs.reserved_place.Tie as tie
 returns : tie.Need-returns
 returns c =
     let a = c .before .before .before .args in (
-      none-reserved (a .key) (a .places) (ap isFound (sym (c .before .before .find-place .ensures .0)) ∙ sym (c .before .is-found .ensures)
+      none-reserved (a .key) (a .places) (ap isFound (sym (c .before .before .find-place .ensures .0))
+          ∙ sym (c .before .is-found .ensures)
           ∙ c .if1 .taken),
       tt,
     )
@@ -18,10 +19,12 @@ returns-2 : tie.Need-returns-2
 returns-2 c =
     let a = c .before .before .before .before .args in (
       c .find-place2 .ensures .0
-          ∙ one-reserved (a .key) (a .places) (ap isFound (sym (c .before .before .before .find-place .ensures .0)) ∙ sym
+          ∙ one-reserved (a .key) (a .places) (ap isFound (sym (c .before .before .before .find-place .ensures .0))
+          ∙ sym
           (c .before .before .is-found .ensures) ∙ c .before .if1 .left),
       c .find-place2 .ensures .1,
     )
 
 pub reserved-place-spec : {M : Type 1} → statement M
-reserved-place-spec = tie.close (tie.spec (λ c κs. search needs) (λ c κs. search needs) returns (λ c κs. search needs) returns-2)
+reserved-place-spec = tie.close (tie.spec (λ c κs. search needs) (λ c κs. search needs) returns (λ c κs. search needs)
+    returns-2)

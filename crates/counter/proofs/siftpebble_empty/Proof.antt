@@ -1,4 +1,5 @@
--- `counter::siftpebble_empty` meets its contract: a walk of its MIR, by hand. The arrays are lent in place for a lifetime that is made for the call,
+-- `counter::siftpebble_empty` meets its contract: a walk of its MIR, by hand. The arrays are lent in place for a
+-- lifetime that is made for the call,
 -- and the book that comes back is stored. Assumes nothing.
 use mathlib.Core.Path.{_≡_, refl, ap, subst}
 use Prim.Native.Nat.{ℕ, _+_}
@@ -15,10 +16,12 @@ use prog.Wp.{Heap, Calls, Loops, WpFn, Tables}
 use ghost.Atoms.{Atoms}
 use contract.Monad.{Fun, fact}
 use contract.Running.{givenOf, tables, tablesOf}
-use types.Kit.{Given, ‵, raw, _⊛_, ⋆, some, later, given, _$_, _∵_, !, qed, by, move, keep, drop, use1, use3, split, split3, join, group}
+use types.Kit.{Given, ‵, raw, _⊛_, ⋆, some, later, given, _$_, _∵_, !, qed, by, move, keep, drop, use1, use3, split}
+use types.Kit.{split3, join, group}
 use types.Kit.{pick, learn, rewrite, fsplit, fsplit3, fjoin, fjoin3, feqI, suffices, frame, await, done}
 use types.Tokens.{lft-new}
-use types.Run.{look, store-raw, init, forget, stop, hop, fld, from, load, addr, unit-lit, of-opd, and-then, no-more, assigns, land}
+use types.Run.{look, store-raw, init, forget, stop, hop, fld, from, load, addr, unit-lit, of-opd, and-then, no-more}
+use types.Run.{assigns, land}
 use types.Run.{returns, enter, alloc1, alloc0, params1, pass1, pass0, free1, free0}
 use types.SemTy.{Body}
 use types.Mut.{open-ref, close-ref}
@@ -49,7 +52,8 @@ use Rattle.parts.proofs.Parts as T
 use Rattle.parts.proofs.Book as B
 use Rattle.parts.proofs.Book.Laws as B′
 use Rattle.counter.specs.Layout.{workingAt, rowsAt, learnedAt}
-use Rattle.counter.proofs.Apart.{Working, Rows, Learned, Bytes, Names, bv, Fits, BookAt, DeskAt, Arrays, ref, Refs, Lents, Back}
+use Rattle.counter.proofs.Apart.{Working, Rows, Learned, Bytes, Names, bv, Fits, BookAt, DeskAt, Arrays, ref}
+use Rattle.counter.proofs.Apart.{Refs, Lents, Back}
 use Rattle.counter.proofs.Apart.{apart, together, lent-out, back-in}
 use Rattle.asked_tables.proofs.emptied.Symbol as g
 use Rattle.asked_tables.proofs.emptied.Met as g-thm
@@ -89,7 +93,8 @@ Callee 𝓤 H A = tripleOf 𝓤 H A (gEnded .signature) (closing 𝓤 H A gEnded
 abbrev stayed : Stays (f.ended .signature .params) (f.ended .kept)
 stayed = (stay-ref (0 ∷ []) tt (plain (λ _. T.the-row)), tt)
 
-module _ {M : Type 1} (𝓤 : URA M) (H : Heap 𝓤) (A : Atoms 𝓤) (W : Given 𝓤 H A) (at-mem : Memory → SProp 𝓤) (run : Routine → Fun 𝓤) where
+module _ {M : Type 1} (𝓤 : URA M) (H : Heap 𝓤) (A : Atoms 𝓤) (W : Given 𝓤 H A) (at-mem : Memory → SProp 𝓤)
+    (run : Routine → Fun 𝓤) where
   module _ (κ : Lft) (q : Share) (b o : ℕ) (γ : GName) (h : Parts) where
     abbrev x : RefT Parts × Unit {0}
     x = (record { ptr = (b, o); name = γ; now = h }, tt)
@@ -101,12 +106,17 @@ module _ {M : Type 1} (𝓤 : URA M) (H : Heap 𝓤) (A : Atoms 𝓤) (W : Given
     Post = walkOf 𝓤 H A f.ended stayed (f.clauses 𝓤 H A at-mem run) .post (((κ, tt), (q, tt), tt, x, at), tt)
 
     exits : (d : Parts) → Empty d
-        → ent 𝓤 (⋆ 𝓤 H A (‵ (fobs γ (T.the-row .coded .code d)) ∷ ‵ (fbor κ (Body (mem T.the-row) b o γ)) ∷ ‵ (flft κ q) ∷ ‵ ftrue ∷ [])) (Post vunit)
+        → ent 𝓤 (⋆ 𝓤 H A (‵ (fobs γ (T.the-row .coded .code d)) ∷ ‵ (fbor κ (Body (mem T.the-row) b o γ))
+        ∷ ‵ (flft κ q) ∷ ‵ ftrue ∷ [])) (Post vunit)
     exits d e =
-        qed W (‵ (fobs γ (T.the-row .coded .code d)) ∷ ‵ (fbor κ (Body (mem T.the-row) b o γ)) ∷ ‵ (flft κ q) ∷ ‵ ftrue ∷ []) ∵
-        suffices ! _ (ends-at 𝓤 H A f.ended stayed (f.clauses 𝓤 H A at-mem run) W (((κ, tt), (q, tt), tt, x, at), tt) vunit tt (d, tt) (tt, tt)) $
-        says ! e $ move ! (2 ∷ 3 ∷ []) $ join ! $ frame ! $ feqI ! (List Val) (vptr b o ∷ []) (vptr b o ∷ []) refl $ fjoin3 ! $
-        nothing ! $ move ! (1 ∷ 0 ∷ []) $ fjoin ! $ feqI ! (List Val) (vunit ∷ []) (vunit ∷ []) refl $ move ! (1 ∷ 0 ∷ []) $ done !
+        qed W (‵ (fobs γ (T.the-row .coded .code d)) ∷ ‵ (fbor κ (Body (mem T.the-row) b o γ)) ∷ ‵ (flft κ q)
+        ∷ ‵ ftrue ∷ []) ∵
+        suffices ! _ (ends-at 𝓤 H A f.ended stayed (f.clauses 𝓤 H A at-mem run) W (((κ, tt), (q, tt), tt, x, at), tt)
+        vunit tt (d, tt) (tt, tt)) $
+        says ! e $ move ! (2 ∷ 3 ∷ []) $ join ! $ frame ! $ feqI ! (List Val) (vptr b o ∷ []) (vptr b o ∷ []) refl
+        $ fjoin3 ! $
+        nothing ! $ move ! (1 ∷ 0 ∷ []) $ fjoin ! $ feqI ! (List Val) (vunit ∷ []) (vunit ∷ []) refl
+        $ move ! (1 ∷ 0 ∷ []) $ done !
 
     -- the covered function's arguments, with the arrays lent for α under the names δ
     module _ (α : ℕ) (δ : Names) where
@@ -114,7 +124,13 @@ module _ {M : Type 1} (𝓤 : URA M) (H : Heap 𝓤) (A : Atoms 𝓤) (W : Given
       lent d name xs = record { ptr = (b, o + d); name = name; now = xs }
 
       abbrev gx : RefT Bytes × (RefT Bytes × (RefT Bytes × Unit {0}))
-      gx = (lent workingAt (δ .0) (h .working), (lent rowsAt (δ .1 .0) (h .rows), (lent learnedAt (δ .1 .1) (h .learned), tt)))
+      gx = (
+        lent workingAt (δ .0) (h .working),
+        (
+          lent rowsAt (δ .1 .0) (h .rows),
+          (lent learnedAt (δ .1 .1) (h .learned), tt),
+        ),
+      )
 
       abbrev at-g : List Val × (List Val × (List Val × Unit {0}))
       at-g = (vptr b (o + workingAt) ∷ [], (vptr b (o + rowsAt) ∷ [], (vptr b (o + learnedAt) ∷ [], tt)))
@@ -123,14 +139,16 @@ module _ {M : Type 1} (𝓤 : URA M) (H : Heap 𝓤) (A : Atoms 𝓤) (W : Given
       to-g = (((α ∷ [], tt), (fullShare, tt), tt, gx, at-g), tt)
 
       goes-g : Fits h
-          → ent 𝓤 (⋆ 𝓤 H A (‵ (flft (α ∷ []) fullShare) ∷ raw (Refs b o 𝓤 H A α δ (h .working) (h .rows) (h .learned)) ∷ ‵ ftrue ∷ ‵ ftrue ∷ []))
+          → ent 𝓤 (⋆ 𝓤 H A (‵ (flft (α ∷ []) fullShare) ∷ raw (Refs b o 𝓤 H A α δ (h .working) (h .rows) (h .learned))
+          ∷ ‵ ftrue ∷ ‵ ftrue ∷ []))
           (Callee 𝓤 H A .pre to-g)
       goes-g is =
           qed W (‵ (flft (α ∷ []) fullShare)
           ∷ (‵ (ref b o Working α workingAt (δ .0) (h .working)) ⊛ ‵ (ref b o Rows α rowsAt (δ .1 .0) (h .rows))
           ⊛ ‵ (ref b o Learned α learnedAt (δ .1 .1) (h .learned))) ∷ ‵ ftrue ∷ ‵ ftrue ∷ []) ∵
           says ! (is .1) $ move ! (0 ∷ 2 ∷ []) $ join ! $ move ! (1 ∷ []) $ split3 ! $
-          move ! (2 ∷ 4 ∷ []) $ fjoin ! $ move ! (2 ∷ 0 ∷ []) $ fjoin ! $ move ! (1 ∷ 0 ∷ []) $ fjoin ! $ move ! (1 ∷ 0 ∷ []) $ done !
+          move ! (2 ∷ 4 ∷ []) $ fjoin ! $ move ! (2 ∷ 0 ∷ []) $ fjoin ! $ move ! (1 ∷ 0 ∷ []) $ fjoin !
+          $ move ! (1 ∷ 0 ∷ []) $ done !
 
     -- what the covered function says
     abbrev Last : Type 0
@@ -142,38 +160,52 @@ module _ {M : Type 1} (𝓤 : URA M) (H : Heap 𝓤) (A : Atoms 𝓤) (W : Given
     book-of : (r : Book) (v : Val) → Is B.the-row r (v ∷ []) → Is B.the-row r (bv r ∷ [])
     book-of r v is = subst (λ (vs : List Val). Is B.the-row r vs) (LL.tells B.the-type B′.the-laws r (v ∷ []) is) is
 
-    module _ (C : Calls 𝓤 H) (Λ : Loops 𝓤 H) (fm : FmC 𝓤 H (W .laws) C) (known : Triple 𝓤 (C g.name) (Callee 𝓤 H A)) where
+    module _ (C : Calls 𝓤 H) (Λ : Loops 𝓤 H) (fm : FmC 𝓤 H (W .laws) C)
+        (known : Triple 𝓤 (C g.name) (Callee 𝓤 H A)) where
       walk : ent 𝓤 (onEntry 𝓤 H A f.signature (κ, tt) (q, tt) x at) (WpFn 𝓤 H C Λ code.function (vptr b o ∷ []) Post)
       walk =
-          qed W ((‵ (flft κ q) ⊛ ‵ ftrue) ∷ ‵ (owns (MutRef (named 0) κ T.the-row ∷ []) x at) ∷ []) ∵ enter ! C Λ code.function (vptr b o ∷ []) _ $
-          alloc1 ! (λ l₀. alloc1 ! (λ l₁. alloc1 ! (λ l₂. alloc1 ! (λ l₃. alloc1 ! (λ l₄. alloc1 ! (λ l₅. alloc0 ! $ params1 ! $
+          qed W ((‵ (flft κ q) ⊛ ‵ ftrue) ∷ ‵ (owns (MutRef (named 0) κ T.the-row ∷ []) x at) ∷ []) ∵ enter ! C Λ
+          code.function (vptr b o ∷ []) _ $
+          alloc1 ! (λ l₀. alloc1 !
+          (λ l₁. alloc1 ! (λ l₂. alloc1 ! (λ l₃. alloc1 ! (λ l₄. alloc1 ! (λ l₅. alloc0 ! $ params1 ! $
           pass1 ! (init ! 8 refl (tt, tt)) $ pass0 ! $
           -- [the last local; ..; _1; ..; room for _0; ..; the tokens; what the parameter owns]
           move ! (13 ∷ []) $ fsplit ! $ fsplit3 ! $ drop ! $ move ! (15 ∷ []) $ split ! $ move ! (2 ∷ 3 ∷ 0 ∷ []) $
           open-ref ! tt (mem T.the-row) {b = b} {o = o} $
-          use1 W (given (Fits h) (‵ (BookAt b o (h .book)) ⊛ raw (Arrays b o 𝓤 H A (h .working) (h .rows) (h .learned)) ⊛ raw (Back b o 𝓤 H A)))
+          use1 W (given (Fits h) (‵ (BookAt b o (h .book)) ⊛ raw (Arrays b o 𝓤 H A (h .working) (h .rows) (h .learned))
+          ⊛ raw (Back b o 𝓤 H A)))
           (apart b o 𝓤 H A W h) $ learn ! (λ was. split3 ! $
-          -- [the book's cell; the arrays; the way back; the open borrow; obs; auth; true; true; _5 at 8; _4; _3; _2; _1 at 16; ..]
-          assigns ! (addr ! (from ! (hop ! (look ! 16 refl) (fld ! refl (stop !))))) (from ! (stop !)) (init ! 12 refl (tt, tt)) $
-          assigns ! (addr ! (from ! (hop ! (look ! 16 refl) (fld ! refl (stop !))))) (from ! (stop !)) (init ! 10 refl (tt, tt)) $
-          assigns ! (addr ! (from ! (hop ! (look ! 16 refl) (fld ! refl (stop !))))) (from ! (stop !)) (init ! 8 refl (tt, tt)) $
+          -- [the book's cell; the arrays; the way back; the open borrow; obs; auth; true; true; _5 at 8; _4; _3; _2; _1
+          -- at 16; ..]
+          assigns ! (addr ! (from ! (hop ! (look ! 16 refl) (fld ! refl (stop !))))) (from ! (stop !))
+          (init ! 12 refl (tt, tt)) $
+          assigns ! (addr ! (from ! (hop ! (look ! 16 refl) (fld ! refl (stop !))))) (from ! (stop !))
+          (init ! 10 refl (tt, tt)) $
+          assigns ! (addr ! (from ! (hop ! (look ! 16 refl) (fld ! refl (stop !))))) (from ! (stop !))
+          (init ! 8 refl (tt, tt)) $
           -- the arrays are lent for a new lifetime
           lft-new ! tt (λ α. move ! (2 ∷ []) $
-          use1 W (later (some (λ (δ : Names). raw (Refs b o 𝓤 H A α δ (h .working) (h .rows) (h .learned)) ⊛ raw (Lents b o 𝓤 H A α δ))))
+          use1 W (later (some (λ (δ : Names). raw (Refs b o 𝓤 H A α δ (h .working) (h .rows) (h .learned))
+          ⊛ raw (Lents b o 𝓤 H A α δ))))
           (lent-out b o 𝓤 H A W α (h .working) (h .rows) (h .learned)) $ await ! tt $ pick ! (λ δ. split ! $
-          -- [the references; the lender's part; the new token; the book's cell; the way back; the open borrow; obs; auth; true; true; ..]
+          -- [the references; the lender's part; the new token; the book's cell; the way back; the open borrow; obs;
+          -- auth; true; true; ..]
           move ! (2 ∷ 0 ∷ 8 ∷ 9 ∷ []) $ group ! 4 $ use1 W (raw (Callee 𝓤 H A .pre (to-g α δ))) (goes-g α δ was) $
-          -- [what the callee asks; the lender's part; the book's cell; the way back; the open borrow; obs; auth; _5 at 7; ..]
+          -- [what the callee asks; the lender's part; the book's cell; the way back; the open borrow; obs; auth; _5 at
+          -- 7; ..]
           calls-at ! fm (Callee 𝓤 H A) known (to-g α δ)
           (and-then ! (load ! (from ! (stop !)) (look ! 11 refl)) (and-then ! (load ! (from ! (stop !)) (look ! 9 refl))
           (and-then ! (load ! (from ! (stop !)) (look ! 7 refl)) (no-more !)))) (λ v.
           use1 W (later (some (λ (r : Book). ((‵ (flft (α ∷ []) fullShare) ⊛ ‵ ftrue) ⊛ ‵ (B.the-row .own r (v ∷ [])))
-          ⊛ raw (ensured 𝓤 H A gEnded (gClauses 𝓤) (α ∷ [], tt) (gx α δ) tt r)))) (id⊢ 𝓤 _) $ await ! tt $ pick ! (λ r. split ! $ move ! (1 ∷ []) $
-          use1 W (some (λ (zs : Last). ‵ (lasts gEnded (α ∷ [], tt) (gx α δ) zs) ⊛ raw (fact 𝓤 (Empty (after r zs))))) (id⊢ 𝓤 _) $ pick ! (λ zs.
+          ⊛ raw (ensured 𝓤 H A gEnded (gClauses 𝓤) (α ∷ [], tt) (gx α δ) tt r)))) (id⊢ 𝓤 _) $ await ! tt
+          $ pick ! (λ r. split ! $ move ! (1 ∷ []) $
+          use1 W (some (λ (zs : Last). ‵ (lasts gEnded (α ∷ [], tt) (gx α δ) zs) ⊛ raw (fact 𝓤 (Empty (after r zs)))))
+          (id⊢ 𝓤 _) $ pick ! (λ zs.
           split ! $ move ! (1 ∷ []) $ heard ! (Empty (after r zs)) (λ e.
           fsplit ! $ move ! (1 ∷ []) $ fsplit ! $ move ! (1 ∷ []) $ fsplit ! $ move ! (1 ∷ []) $ drop ! $
           move ! (3 ∷ []) $ split ! $ split ! $
-          -- [the new token; true; the result; the arrays' last values, the third first; the lender's part; the book's cell; ..]
+          -- [the new token; true; the result; the arrays' last values, the third first; the lender's part; the book's
+          -- cell; ..]
           move ! (5 ∷ 4 ∷ 3 ∷ []) $ group ! 3 $ move ! (1 ∷ 4 ∷ 0 ∷ []) $
           use3 W (later (raw (Arrays b o 𝓤 H A (zs .0) (zs .1 .0) (zs .1 .1 .0))))
           (back-in b o 𝓤 H A W α δ (zs .0) (zs .1 .0) (zs .1 .1 .0)) $ await ! tt $
@@ -181,15 +213,19 @@ module _ {M : Type 1} (𝓤 : URA M) (H : Heap 𝓤) (A : Atoms 𝓤) (W : Given
           move ! (2 ∷ 0 ∷ 3 ∷ 4 ∷ 5 ∷ 6 ∷ []) $
           -- [the book's cell; the arrays; the way back; the open borrow; obs; auth; true; _5 at 7; ..]
           land ! (from ! (stop !)) (init ! 13 refl (LL.lawful B.the-type B′.the-laws 𝓤 H A W .typed r _ is .0)) $
-          rewrite ! 13 (λ (u : Val). ‵ (fat fullShare B′.mir l₂ 0 u)) (ap only (LL.tells B.the-type B′.the-laws r (v ∷ []) is)) refl $
-          assigns ! (of-opd ! (load ! (from ! (stop !)) (look ! 13 refl))) (from ! (hop ! (look ! 15 refl) (fld ! refl (stop !))))
+          rewrite ! 13 (λ (u : Val). ‵ (fat fullShare B′.mir l₂ 0 u))
+          (ap only (LL.tells B.the-type B′.the-laws r (v ∷ []) is)) refl $
+          assigns ! (of-opd ! (load ! (from ! (stop !)) (look ! 13 refl)))
+          (from ! (hop ! (look ! 15 refl) (fld ! refl (stop !))))
           (store-raw ! 0 refl (LL.lawful B.the-type B′.the-laws 𝓤 H A W .typed r _ (book-of r _ is) .0)) $
           assigns ! (of-opd ! (unit-lit !)) (from ! (stop !)) (init ! 17 refl (tt, tt)) $
           group ! 3 $ use1 W (‵ (DeskAt b o (after r zs))) (together b o 𝓤 H A W (after r zs) (book-of r _ is)) $
           close-ref ! tt (mem T.the-row) (after r zs) {b = b} {o = o} $
           -- [obs; the borrow; the token; true; _5 at 4; ..; _0 at 14]
-          returns ! (look ! 14 refl) $ forget ! 4 refl $ forget ! 6 refl $ forget ! 8 refl $ forget ! 10 refl $ forget ! 12 refl $ forget ! 14 refl $
-          move ! (14 ∷ 15 ∷ []) $ free1 ! $ move ! (12 ∷ 13 ∷ []) $ free1 ! $ move ! (10 ∷ 11 ∷ []) $ free1 ! $ move ! (8 ∷ 9 ∷ []) $ free1 ! $
+          returns ! (look ! 14 refl) $ forget ! 4 refl $ forget ! 6 refl $ forget ! 8 refl $ forget ! 10 refl
+          $ forget ! 12 refl $ forget ! 14 refl $
+          move ! (14 ∷ 15 ∷ []) $ free1 ! $ move ! (12 ∷ 13 ∷ []) $ free1 ! $ move ! (10 ∷ 11 ∷ []) $ free1 !
+          $ move ! (8 ∷ 9 ∷ []) $ free1 ! $
           move ! (6 ∷ 7 ∷ []) $ free1 ! $ move ! (4 ∷ 5 ∷ []) $ free1 ! $ free0 ! $
           keep ! (0 ∷ 1 ∷ 2 ∷ 3 ∷ []) $ by ! (exits (after r zs) e)))))))))))))))
 
@@ -198,7 +234,8 @@ module _ {M : Type 1} (𝓤 : URA M) (H : Heap 𝓤) (A : Atoms 𝓤) (W : Given
   walks C Λ fm known =
       walked 𝓤 H A f.ended stayed (f.clauses 𝓤 H A at-mem run) (WpFn 𝓤 H C Λ code.function) (λ κs. (ptr-vals, tt))
       (λ κs. (mut-tells (named 0) (κs .0) T.the-row, tt))
-      (λ κs qs bounds a _ are. via 𝓤 _ (fst∗ 𝓤 _ (emp 𝓤)) (walk (κs .0) (qs .0) (a .0 .ptr .0) (a .0 .ptr .1) (a .0 .name) (a .0 .now) C Λ fm known))
+      (λ κs qs bounds a _ are. via 𝓤 _ (fst∗ 𝓤 _ (emp 𝓤)) (walk (κs .0) (qs .0) (a .0 .ptr .0) (a .0 .ptr .1)
+      (a .0 .name) (a .0 .now) C Λ fm known))
 
   goes : AllGo 𝓤 H A W 1 (f.signature .params) (f.ended .kept) stayed
   goes = (goes-ref 𝓤 H A W 1 0 tt (plain (λ _. T.the-row)), tt)

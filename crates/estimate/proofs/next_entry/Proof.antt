@@ -27,7 +27,8 @@ sub-result-2 : tie.Need-sub-result-2
 sub-result-2 c = next-fall (c .before .before .before .args .e) _ (c .fall-of .ensures) (c .before .if3 .left) .0
 
 returns-4 : tie.Need-returns-4
-returns-4 c = rw (c .before .before .if1 .left) (next-fall (c .before .before .before .args .e) _ (c .fall-of .ensures) (c .before .if3 .left) .1)
+returns-4 c = rw (c .before .before .if1 .left) (next-fall (c .before .before .before .args .e) _ (c .fall-of .ensures)
+    (c .before .if3 .left) .1)
 
 pub next-entry-spec : {M : Type 1} → statement M
 next-entry-spec =

@@ -7,7 +7,8 @@ use Rattle.interval.proofs.fits.Statement.{statement}
 use Rattle.interval.proofs.fits.Tie as tie
 
 mul-if1 : tie.Need-mul-if1
-mul-if1 c = let p = mul-le-mul {n₁ = c .args .n} {m₁ = c .args .q} {n₂ = maxWidth} {m₂ = 0xAC1} (c .pre .0) (c .pre .2) in omega arith
+mul-if1 c = let p = mul-le-mul {n₁ = c .args .n} {m₁ = c .args .q} {n₂ = maxWidth} {m₂ = 0xAC1} (c .pre .0)
+    (c .pre .2) in omega arith
 
 returns : tie.Need-returns
 returns c = (omega arith, c .if1 .taken)
@@ -18,7 +19,8 @@ div-result c = search needs
 returns-2 : tie.Need-returns-2
 returns-2 c =
     let a = c .before .args in
-    let f = div-lt-iff-lt-mul {k = a .q} {x = a .room} {y = a .n} (c .before .pre .1) .1 (omega (arith, c .if1 .left)) in
+    let f = div-lt-iff-lt-mul {k = a .q} {x = a .room} {y = a .n} (c .before .pre .1) .1
+    (omega (arith, c .if1 .left)) in
     (omega arith, div-mul-le-self (a .room) (a .q))
 
 pub fits-spec : {M : Type 1} → statement M

@@ -15,7 +15,8 @@ abbrev μ-loop : tie.MeasureT-loop
 μ-loop xs top₀ i₀ top i = length xs - i
 
 loop-again : tie.Need-loop-again Inv-loop μ-loop
-loop-again c = highest-next (c .before .before .before .loop .inv) (c .higher .result) (omega arith) (c .higher .ensures)
+loop-again c = highest-next (c .before .before .before .loop .inv) (c .higher .result) (omega arith)
+    (c .higher .ensures)
 
 returns : tie.Need-returns Inv-loop μ-loop
 returns c = highest-end (c .before .loop .inv) (omega arith)
@@ -23,5 +24,6 @@ returns c = highest-end (c .before .loop .inv) (omega arith)
 pub highest-spec : {M : Type 1} → statement M
 highest-spec =
     tie.close
-    (tie.spec Inv-loop μ-loop (λ c. record { rest = refl }) (λ c. omega arith) (λ c κs. search needs) (λ c. omega arith) (λ c. omega arith)
+    (tie.spec Inv-loop μ-loop (λ c. record { rest = refl }) (λ c. omega arith) (λ c κs. search needs)
+    (λ c. omega arith) (λ c. omega arith)
     loop-again returns)

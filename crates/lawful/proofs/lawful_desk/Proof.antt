@@ -25,10 +25,12 @@ returns c =
           .before .pre;
     } in (
       ap₂ (λ (x y : Bool). x && y)
-          (c .before .pages-right .ensures .0 ∙ ap (λ (z : List PlaceLine). each (pageRight z) (deskOf p .pages)) (sym (place-lines-off _ _
+          (c .before .pages-right .ensures .0 ∙ ap (λ (z : List PlaceLine). each (pageRight z) (deskOf p .pages))
+          (sym (place-lines-off _ _
           (learned-long p w))))
           (c .places-right .ensures .0
-          ∙ ap (λ (z : List PageLine). each (placeRight z) (deskOf p .places)) (sym (lines-off _ _ _ (tables-long p w) (rows-long p w))))
+          ∙ ap (λ (z : List PageLine). each (placeRight z) (deskOf p .places))
+          (sym (lines-off _ _ _ (tables-long p w) (rows-long p w))))
           ∙ sym (lawful-each (deskOf p)),
       w,
     )

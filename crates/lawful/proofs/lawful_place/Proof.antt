@@ -13,7 +13,8 @@ use Rattle.lawful.proofs.lawful_place.Tie as tie
 returns : tie.Need-returns
 returns c =
     let a = c .before .before .before .before .before .before .before .args in
-    free-made _ _ _ (c .before .before .if1 .taken) (c .same-key .ensures ∙ ap (sameKey (a .q .key)) (c .before .no-key .ensures))
+    free-made _ _ _ (c .before .before .if1 .taken) (c .same-key .ensures ∙ ap (sameKey (a .q .key))
+    (c .before .no-key .ensures))
     (c .before .before .before .before .is-low .ensures ∙ ap (λ (n : ℕ). low n (a .table .now))
     (c .before .before .before .before .before .top-entry .ensures))
 
@@ -27,4 +28,5 @@ returns-2 c =
 pub lawful-place-spec : {M : Type 1} → statement M
 lawful-place-spec =
     tie.close
-    (tie.spec (λ c κs. search needs) (λ c κs. search needs) (λ c κs. search needs) (λ c κs. search needs) returns (λ c κs. search needs) returns-2)
+    (tie.spec (λ c κs. search needs) (λ c κs. search needs) (λ c κs. search needs) (λ c κs. search needs) returns
+    (λ c κs. search needs) returns-2)

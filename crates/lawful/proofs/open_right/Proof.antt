@@ -13,7 +13,8 @@ use Rattle.lawful.proofs.open_right.Tie as tie
 returns : tie.Need-returns
 returns c =
     let a = c .before .before .before .before .args in
-    open-stops (asPage (a .p) (a .table .now) (a .last .now)) (sym (c .before .in-range .ensures) ∙ not-true _ (c .if1 .taken))
+    open-stops (asPage (a .p) (a .table .now) (a .last .now)) (sym (c .before .in-range .ensures) ∙ not-true _
+    (c .if1 .taken))
 
 no-stray-requires : tie.Need-no-stray-requires
 no-stray-requires c κs =
@@ -24,10 +25,12 @@ no-stray-requires c κs =
 returns-2 : tie.Need-returns-2
 returns-2 c =
     let a = c .before .before .before .before .before .before .before .before .args in
-    open-made (asPage (a .p) (a .table .now) (a .last .now)) _ _ _ (sym (c .before .before .before .before .before .in-range .ensures) ∙ not-false _
+    open-made (asPage (a .p) (a .table .now) (a .last .now)) _ _ _
+    (sym (c .before .before .before .before .before .in-range .ensures) ∙ not-false _
     (c .before .before .before .before .if1 .left)) (c .before .before .lawful-key .ensures)
     (c .before .is-low .ensures) (c .no-stray .ensures)
 
 pub open-right-spec : {M : Type 1} → statement M
 open-right-spec =
-    tie.close (tie.spec (λ c κs. search needs) returns (λ c κs. search needs) (λ c κs. search needs) no-stray-requires returns-2)
+    tie.close (tie.spec (λ c κs. search needs) returns (λ c κs. search needs) (λ c κs. search needs) no-stray-requires
+    returns-2)

@@ -9,4 +9,5 @@ returns c = rw (c .before .has-page .ensures, c .has-place .ensures)
 pub page-known-spec : {M : Type 1} → statement M
 page-known-spec =
     tie.close
-    (tie.spec (λ c. search needs) (λ c. search needs) (λ c. search needs) (λ c κs. search needs) (λ c κs. search needs) returns)
+    (tie.spec (λ c. search needs) (λ c. search needs) (λ c. search needs) (λ c κs. search needs) (λ c κs. search needs)
+    returns)

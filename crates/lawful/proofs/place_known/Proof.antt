@@ -9,4 +9,5 @@ returns c = rw (c .before .before .has-place .ensures, c .has-page .ensures)
 pub place-known-spec : {M : Type 1} → statement M
 place-known-spec =
     tie.close
-    (tie.spec (λ c. search needs) (λ c. search needs) (λ c. search needs) (λ c κs. search needs) (λ c κs. search needs) returns)
+    (tie.spec (λ c. search needs) (λ c. search needs) (λ c. search needs) (λ c κs. search needs) (λ c κs. search needs)
+    returns)

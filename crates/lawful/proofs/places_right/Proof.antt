@@ -17,7 +17,8 @@ use Rattle.lawful.proofs.places_right.Statement.{statement}
 use Rattle.lawful.proofs.places_right.Tie as tie
 
 abbrev Inv-loop : tie.InvT-loop
-Inv-loop pages learned places i₀ i = Left (placeRight pages) (each (placeRight pages) (placesOf places learned)) (placesOf places learned) maxPlaces i
+Inv-loop pages learned places i₀ i = Left (placeRight pages) (each (placeRight pages) (placesOf places learned))
+    (placesOf places learned) maxPlaces i
 
 abbrev μ-loop : tie.MeasureT-loop
 μ-loop pages learned places i₀ i = maxPlaces - i
@@ -29,21 +30,25 @@ starts c =
 
 returns : tie.Need-returns Inv-loop μ-loop
 returns c =
-    let n : length (c .before .before .before .before .before .before .before .before .args .t2) ≡ maxPlaces = search needs in (
+    let n : length (c .before .before .before .before .before .before .before .before .args .t2) ≡ maxPlaces =
+    search needs in (
       each-failed (c .before .before .before .before .before .before .before .loop .inv) noPlace (omega arith)
           (place-right _ _ _ (c .before .before .before .before .before .before .before .loop .i) (n ∙ sym
           (c .before .before .before .before .before .before .before .before .pre))
-          ∙ sym (both-made (c .before .before .lawful-place .ensures) (c .before .place-known .ensures)) ∙ not-true _ (c .if1 .taken)),
+          ∙ sym (both-made (c .before .before .lawful-place .ensures) (c .before .place-known .ensures)) ∙ not-true _
+          (c .if1 .taken)),
       n,
     )
 
 loop-again : tie.Need-loop-again Inv-loop μ-loop
 loop-again c =
-    let n : length (c .before .before .before .before .before .before .before .before .args .t2) ≡ maxPlaces = search needs in
+    let n : length (c .before .before .before .before .before .before .before .before .args .t2) ≡ maxPlaces =
+    search needs in
     each-passed (c .before .before .before .before .before .before .before .loop .inv) noPlace (omega arith)
     (place-right _ _ _ (c .before .before .before .before .before .before .before .loop .i) (n ∙ sym
     (c .before .before .before .before .before .before .before .before .pre))
-    ∙ sym (both-made (c .before .before .lawful-place .ensures) (c .before .place-known .ensures)) ∙ not-false _ (c .if1 .left))
+    ∙ sym (both-made (c .before .before .lawful-place .ensures) (c .before .place-known .ensures)) ∙ not-false _
+    (c .if1 .left))
 
 returns-2 : tie.Need-returns-2 Inv-loop μ-loop
 returns-2 c = (each-end (c .before .loop .inv) (omega arith), search needs)
@@ -51,5 +56,6 @@ returns-2 c = (each-end (c .before .loop .inv) (omega arith), search needs)
 pub places-right-spec : {M : Type 1} → statement M
 places-right-spec =
     tie.close
-    (tie.spec Inv-loop μ-loop starts (λ c. search needs) (λ c. search needs) (λ c. search needs) (λ c. search needs) (λ c κs. search needs)
+    (tie.spec Inv-loop μ-loop starts (λ c. search needs) (λ c. search needs) (λ c. search needs) (λ c. search needs)
+    (λ c κs. search needs)
     (λ c κs. search needs) returns (λ c. omega arith) (λ c. omega arith) loop-again returns-2)

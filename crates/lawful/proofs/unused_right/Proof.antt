@@ -10,7 +10,8 @@ use Rattle.lawful.proofs.unused_right.Tie as tie
 returns : tie.Need-returns
 returns c =
     let a = c .before .before .before .before .before .before .before .args in
-    unused-made (asPage (a .p) (a .table .now) (a .last .now)) _ _ _ (c .before .before .before .same-key .ensures ∙ ap (sameKey (a .p .key))
+    unused-made (asPage (a .p) (a .table .now) (a .last .now)) _ _ _ (c .before .before .before .same-key .ensures
+    ∙ ap (sameKey (a .p .key))
     (c .before .before .before .before .no-key .ensures))
     (c .before .is-low .ensures) (c .is-low2 .ensures)
 

@@ -15,7 +15,8 @@ use Rattle.parts.proofs.clear_page.Tie as tie
 returns : tie.Need-returns
 unfolding unusedPage white
 returns c =
-    page-as (ap₂ (λ (k : Key) (t : Table). asPage (record { state = 0; key = k; width = 0 }) (t .entries) (replicate lastBytes 0))
+    page-as (ap₂ (λ (k : Key) (t : Table). asPage (record { state = 0; key = k; width = 0 }) (t .entries)
+    (replicate lastBytes 0))
     (c .before .before .before .before .no-key .ensures)
     (c .before .zero-table .ensures)) (c .put-page .ensures)
 

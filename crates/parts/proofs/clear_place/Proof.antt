@@ -12,7 +12,8 @@ use Rattle.parts.proofs.clear_place.Tie as tie
 returns : tie.Need-returns
 unfolding freePlace
 returns c =
-    place-as (ap₂ (λ (k : Key) (t : Table). asPlace (record { state = 0; key = k }) (t .entries)) (c .before .before .before .no-key .ensures)
+    place-as (ap₂ (λ (k : Key) (t : Table). asPlace (record { state = 0; key = k }) (t .entries))
+    (c .before .before .before .no-key .ensures)
     (c .before .zero-table .ensures))
     (c .put-place .ensures)
 

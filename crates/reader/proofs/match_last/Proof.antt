@@ -47,8 +47,11 @@ loop-again : tie.Need-loop-again Inv-loop μ-loop
 loop-again c =
     let a = c .before .before .before .before .args in
     let l = c .before .before .loop in
-    let n : length (a .t3) ≡ 5 = search needs in
-    (omega arith, rw add-one (matches-next (a .code .now) (a .t3) (a .at) (l .i) (a .good) (l .same) _ (omega arith) (l .inv .1) (c .match-two .ensures)))
+    let n : length (a .t3) ≡ 5 = search needs in (
+      omega arith,
+      rw add-one (matches-next (a .code .now) (a .t3) (a .at) (l .i) (a .good) (l .same) _ (omega arith)
+          (l .inv .1) (c .match-two .ensures)),
+    )
 
 -- src/lib.rt:307:1
 returns : tie.Need-returns Inv-loop μ-loop

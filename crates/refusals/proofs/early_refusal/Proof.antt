@@ -11,7 +11,11 @@ returns c = rw (not-true (c .before .args .good) (c .if1 .taken))
 returns-2 : tie.Need-returns-2
 returns-2 c =
     let k = c .before .lawful-key in
-    rw (not-false (c .before .before .before .args .good) (c .before .before .if1 .left), sym (k .ensures) ∙ not-true (k .result) (c .if2 .taken))
+    rw (
+      not-false (c .before .before .before .args .good) (c .before .before .if1 .left),
+      sym (k .ensures)
+          ∙ not-true (k .result) (c .if2 .taken),
+    )
 
 returns-3 : tie.Need-returns-3
 returns-3 c =

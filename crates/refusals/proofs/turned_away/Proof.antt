@@ -8,13 +8,16 @@ use Rattle.refusals.proofs.turned_away.Statement.{statement}
 use Rattle.refusals.proofs.turned_away.Tie as tie
 
 returns : tie.Need-returns
-returns c = c .refused .ensures ∙ ap (λ (s : Stands). refusedBy (numberOf s) (c .before .before .before .args .book)) (sym
+returns c = c .refused .ensures ∙ ap (λ (s : Stands). refusedBy (numberOf s) (c .before .before .before .args .book))
+    (sym
     (c .before .enum-told .given .1))
 
 returns-2 : tie.Need-returns-2
-returns-2 c = c .refused2 .ensures ∙ ap (λ (s : Stands). refusedBy (numberOf s) (c .before .before .before .before .args .book)) (sym
+returns-2 c = c .refused2 .ensures
+    ∙ ap (λ (s : Stands). refusedBy (numberOf s) (c .before .before .before .before .args .book)) (sym
     (c .before .before .stands .given .1))
 
 pub turned-away-spec : {M : Type 1} → statement M
 turned-away-spec =
-    tie.close (tie.spec (λ c. search needs) (λ c κs. search needs) (λ c. search needs) (λ c κs. search needs) returns returns-2)
+    tie.close (tie.spec (λ c. search needs) (λ c κs. search needs) (λ c. search needs) (λ c κs. search needs)
+    returns returns-2)

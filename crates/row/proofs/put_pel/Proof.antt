@@ -21,7 +21,8 @@ returns : tie.Need-returns
 returns c =
     let a = c .before .before .before .before .before .args in
     let q = c .before .before .before .before .row-of .ensures in
-    rw (c .before .before .before .if1 .taken, c .still-pel .ensures) (pelled-still (a .coder) (a .e) (omega (arith, q, c .before .if2 .taken)))
+    rw (c .before .before .before .if1 .taken, c .still-pel .ensures)
+    (pelled-still (a .coder) (a .e) (omega (arith, q, c .before .if2 .taken)))
 
 pel-requires : tie.Need-pel-requires
 pel-requires c κs =
@@ -41,7 +42,8 @@ returns-2 c =
     let q = c .before .before .before .before .before .before .row-of .ensures in
     let v = rw q at (c .before .before .pel .ensures) in
     rw (c .before .before .before .before .before .if1 .taken, c .moved-pel .ensures)
-    (pelled-moved (a .coder) (a .e) true (c .before .before .pel .result) _ (omega (arith, q, c .before .before .before .if2 .left)) (v .0) (v .1)
+    (pelled-moved (a .coder) (a .e) true (c .before .before .pel .result) _
+    (omega (arith, q, c .before .before .before .if2 .left)) (v .0) (v .1)
     (c .before .next-entry .ensures))
 
 pel-requires-2 : tie.Need-pel-requires-2
@@ -62,7 +64,8 @@ returns-3 c =
     let q = c .before .before .before .before .row-of .ensures in
     let v = rw q at (c .before .before .pel2 .ensures) in
     rw (c .before .before .before .if1 .left, c .moved-pel2 .ensures)
-    (pelled-moved (a .coder) (a .e) false (c .before .before .pel2 .result) _ (omega (arith, row-sized (a .e) .small)) (v .0) (v .1)
+    (pelled-moved (a .coder) (a .e) false (c .before .before .pel2 .result) _ (omega (arith, row-sized (a .e) .small))
+    (v .0) (v .1)
     (c .before .next-entry2 .ensures))
 
 pub put-pel-spec : {M : Type 1} → statement M

@@ -24,7 +24,8 @@ add-t8 c = search needs
 returns : tie.Need-returns
 returns c =
     let a = c .before .before .before .before .args in (
-      c .wide .ensures .0 ∙ ap (λ n. getD (a .code .now) n 0) (sym (add-zero (a .at))) ∙ sym (getD-drop (a .at) (a .code .now) 0 0),
+      c .wide .ensures .0 ∙ ap (λ n. getD (a .code .now) n 0) (sym (add-zero (a .at)))
+          ∙ sym (getD-drop (a .at) (a .code .now) 0 0),
       c .wide .ensures .1,
       sym (drop-drop 1 (a .at) (a .code .now)),
       omega (arith, c .before .before .if1 .taken),

@@ -36,8 +36,12 @@ loop-less c = omega arith
 loop-again : tie.Need-loop-again Inv-loop μ-loop
 loop-again c =
     let l = c .before .loop in
-    let h : l .i < length (c .before .before .args .out .now) = omega arith in
-    (omega arith, simp length-set (omega arith), rw (l .inv .2) (fill-more (l .i) 0 (c .before .before .args .out .now) h))
+    let h : l .i < length (c .before .before .args .out .now) = omega arith in (
+      omega arith,
+      simp length-set (omega arith),
+      rw (l .inv .2) (fill-more (l .i) 0 (c .before .before .args .out .now)
+          h),
+    )
 
 -- src/lib.rt:9:1
 same-length : tie.Need-same-length Inv-loop μ-loop

@@ -45,7 +45,8 @@ loop-again c =
     let n : length (a .t3) ≡ 5 = search needs in (
       omega arith,
       omega (arith, c .before .before .put .ensures .0),
-      c .before .before .put .ensures .1 ∙ rw add-one (stores-next (a .out .now) (a .t3) (l .out) (a .at) (l .next) (l .i) (omega arith) (l .inv .2) (l .inv .1)),
+      c .before .before .put .ensures .1 ∙ rw add-one (stores-next (a .out .now) (a .t3) (l .out) (a .at) (l .next)
+          (l .i) (omega arith) (l .inv .2) (l .inv .1)),
     )
 
 -- src/lib.rt:50:1

@@ -50,8 +50,11 @@ loop-again : tie.Need-loop-again Inv-loop μ-loop
 loop-again c =
     let a = c .before .before .args in
     let l = c .before .loop in
-    let n : length (a .t3) ≡ lastBytes = search needs in
-    (omega arith, rw (add-one, l .inv .1) (paste-suc (a .out .now) (a .from) (a .t3) (l .i) 0 (omega arith) (omega arith)))
+    let n : length (a .t3) ≡ lastBytes = search needs in (
+      omega arith,
+      rw (add-one, l .inv .1) (paste-suc (a .out .now) (a .from) (a .t3) (l .i) 0 (omega arith)
+          (omega arith)),
+    )
 
 -- src/lib.rt:65:1
 same-length : tie.Need-same-length Inv-loop μ-loop

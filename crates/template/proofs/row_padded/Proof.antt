@@ -28,10 +28,12 @@ shl-result : tie.Need-shl-result
 shl-result c = search needs
 
 rem-result : tie.Need-rem-result
-rem-result c = let a = c .before .before .before .args in let b = c .before .row-bytes in let s = shift-small (8 * b .result - a .width) (omega arith) in omega arith
+rem-result c = let a = c .before .before .before .args in let b = c .before .row-bytes in let s =
+    shift-small (8 * b .result - a .width) (omega arith) in omega arith
 
 returns : tie.Need-returns
-returns c = let a = c .before .before .before .args in let b = c .before .row-bytes in padded-by (a .row .now) (a .width) (b .result) (b .ensures) (omega arith)
+returns c = let a = c .before .before .before .args in let b = c .before .row-bytes in padded-by (a .row .now)
+    (a .width) (b .result) (b .ensures) (omega arith)
 
 pub row-padded-spec : {M : Type 1} → statement M
 row-padded-spec =

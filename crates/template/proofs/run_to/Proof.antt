@@ -17,8 +17,15 @@ white-to-requires c κs = search needs
 returns : tie.Need-returns
 returns c =
     let w = c .before .white-to .ensures in
-    let u = c .before .before .before .under-to .ensures in
-    (w .0, record { within = omega arith; white = w .1; under = under-part _ _ _ _ _ (omega arith) (omega arith) (u .2) })
+    let u = c .before .before .before .under-to .ensures in (
+      w .0,
+      record {
+        within = omega arith;
+        white = w .1;
+        under = under-part _ _ _ _ _ (omega arith) (omega arith)
+            (u .2);
+      },
+    )
 
 returns-2 : tie.Need-returns-2
 returns-2 c =

@@ -13,8 +13,12 @@ white-to-requires c κs = search needs
 
 returns : tie.Need-returns
 returns c =
-    let a = c .before .before .before .before .args in
-    (omega arith, omega arith, under-white (a .above .now) (a .width) _ _ _ (c .before .white-to .ensures .1) (λ z k l. omega (arith, c .if1 .taken)))
+    let a = c .before .before .before .before .args in (
+      omega arith,
+      omega arith,
+      under-white (a .above .now) (a .width) _ _ _ (c .before .white-to .ensures .1)
+          (λ z k l. omega (arith, c .if1 .taken)),
+    )
 
 add-if2 : tie.Need-add-if2
 add-if2 c = search needs
@@ -27,8 +31,12 @@ sub-result c = search needs
 
 returns-3 : tie.Need-returns-3
 returns-3 c =
-    let a = c .before .before .before .before .before .args in
-    (omega arith, omega arith, under-white (a .above .now) (a .width) _ _ _ (c .before .before .white-to .ensures .1) (λ z k l. omega arith))
+    let a = c .before .before .before .before .before .args in (
+      omega arith,
+      omega arith,
+      under-white (a .above .now) (a .width) _ _ _ (c .before .before .white-to .ensures .1)
+          (λ z k l. omega arith),
+    )
 
 pub under-to-spec : {M : Type 1} → statement M
 under-to-spec =

@@ -10,7 +10,8 @@ use Rattle.template.proofs.white_to.Statement.{statement}
 use Rattle.template.proofs.white_to.Tie as tie
 
 -- the first word has the pel at x
-first : {A B : Type 0} (x bytes k : ℕ) → 8 ≤ bytes → x < 8 * bytes → (A × (k ≡ x / 8)) ⊎ (B × (k ≡ bytes - 8)) → (A → x / 8 < bytes - 8) →
+first : {A B : Type 0} (x bytes k : ℕ) → 8 ≤ bytes → x < 8 * bytes → (A × (k ≡ x / 8)) ⊎ (B × (k ≡ bytes - 8))
+    → (A → x / 8 < bytes - 8) →
     (B → bytes - 8 ≤ x / 8)
     → (k ≤ bytes - 8) × (8 * k ≤ x) × (x < 8 * k + 64)
 first x bytes k n h (inl (a, e)) f g = let l : x / 8 < bytes - 8 = f a in (omega arith, omega arith, omega arith)
@@ -39,7 +40,8 @@ loop-holds : tie.Need-loop-holds Inv-loop μ-loop
 loop-holds c =
     let a = c .before .before .before .before .args in
     let p = c .before .before .before .before .pre in
-    let f = first (a .x) (a .bytes) (c .before .if2 .k) (omega arith) (p .2) (c .before .if2 .came) (λ z. z .taken) (λ z. z .left) in
+    let f = first (a .x) (a .bytes) (c .before .if2 .k) (omega arith) (p .2) (c .before .if2 .came) (λ z. z .taken)
+    (λ z. z .left) in
     (f .0, c .white-in .ensures .0, c .white-in .ensures .1, c .white-in .ensures .2)
 
 add-loop : tie.Need-add-loop Inv-loop μ-loop
@@ -69,8 +71,13 @@ loop-less c = search needs
 loop-again : tie.Need-loop-again Inv-loop μ-loop
 loop-again c =
     let l = c .before .before .before .before .loop in
-    let w = c .white-in2 in
-    (omega arith, omega arith, w .ensures .1, white-more _ _ (l .y) _ (l .inv .3) (white-part _ _ _ _ _ (omega arith) (omega arith) (w .ensures .2)))
+    let w = c .white-in2 in (
+      omega arith,
+      omega arith,
+      w .ensures .1,
+      white-more _ _ (l .y) _ (l .inv .3) (white-part _ _ _ _ _ (omega arith)
+          (omega arith) (w .ensures .2)),
+    )
 
 mul-if4 : tie.Need-mul-if4 Inv-loop μ-loop
 mul-if4 c = search needs

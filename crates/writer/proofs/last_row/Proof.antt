@@ -28,7 +28,8 @@ mul-from c =
     let q = c .before .before .pre in
     let b = c .row-bytes in
     let z = rows-fit (a .width) (a .pels .now)
-    (b .result) (b .ensures) (a .rows) (a .rows - 1) (omega (arith, q .2)) (q .3) (q .1) (q .4) in omega (arith, z .0, z .1)
+    (b .result) (b .ensures) (a .rows) (a .rows - 1) (omega (arith, q .2)) (q .3) (q .1) (q .4) in
+    omega (arith, z .0, z .1)
 
 -- src/lib.rt:138:5
 loop-holds : tie.Need-loop-holds Inv-loop μ-loop
@@ -41,7 +42,8 @@ add-row c =
     let q = c .before .before .before .before .pre in
     let b = c .before .before .row-bytes in
     let z
-    = rows-fit (a .width) (a .pels .now) (b .result) (b .ensures) (a .rows) (a .rows - 1) (omega (arith, q .2)) (q .3) (q .1) (q .4) in omega (
+    = rows-fit (a .width) (a .pels .now) (b .result) (b .ensures) (a .rows) (a .rows - 1) (omega (arith, q .2)) (q .3)
+    (q .1) (q .4) in omega (
       arith,
       z .0,
       z .1,

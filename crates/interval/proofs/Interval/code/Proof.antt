@@ -13,7 +13,8 @@ part-requires c κs = search needs
 grow-requires : tie.Need-grow-requires
 grow-requires c κs =
     let a = c .before .args in
-    let f : Fits (c .part .result) = rw (c .part .ensures) (part-fits (a .q) (a .expected) (a .self) (omega arith) (omega arith) (omega arith) (omega arith) (omega arith) (omega arith)) in
+    let f : Fits (c .part .result) = rw (c .part .ensures) (part-fits (a .q) (a .expected) (a .self) (omega arith)
+    (omega arith) (omega arith) (omega arith) (omega arith) (omega arith)) in
     omega arith
 
 -- src/lib.rt:52:5

@@ -26,7 +26,8 @@ returns c =
     let k = c .before .before .before .shifts-for in
     let low = shl-exact {a = i .low} 26 (k .result) 64 (omega arith) (omega arith) in
     let width = shl-exact {a = i .width} 13 (k .result) 64 (omega arith) (omega arith) in (
-      (λ t. record { low = low t; width = width t; count = i .count + k .result }) ∙ ap (λ (n : ℕ). jumped n i) (k .ensures .0)
+      (λ t. record { low = low t; width = width t; count = i .count + k .result }) ∙ ap (λ (n : ℕ). jumped n i)
+          (k .ensures .0)
           ∙ sym (grown-jumped 12 i),
       k .ensures .0,
     )

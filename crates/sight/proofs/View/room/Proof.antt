@@ -21,7 +21,11 @@ returns c =
     (omega arith, told-fits (a .self .x) (a .self .look) (a .wide - 0x1000) (omega (arith, c .if1 .taken)))
 
 returns-2 : tie.Need-returns-2
-returns-2 c = let a = c .before .before .args in (omega (arith, c .if1 .left), div-mul-le-self (a .self .x) (2 ^ a .self .look))
+returns-2 c = let a = c .before .before .args in (
+  omega (arith, c .if1 .left),
+  div-mul-le-self (a .self .x)
+      (2 ^ a .self .look),
+)
 
 pub room-spec : {M : Type 1} → statement M
 room-spec = tie.close (tie.spec sub-still shr-told returns returns-2)

@@ -18,7 +18,8 @@ mul-part c =
 sub-t4 : tie.Need-sub-t4
 sub-t4 c =
     let a = c .before .before .args in
-    let e : a .n * c .before .power .result ≡ a .n * 2 ^ a .self .look = ap (λ (z : ℕ). a .n * z) (c .before .power .ensures) in
+    let e : a .n * c .before .power .result ≡ a .n * 2 ^ a .self .look = ap (λ (z : ℕ). a .n * z)
+    (c .before .power .ensures) in
     omega (arith, c .before .before .pre .1)
 
 returns : tie.Need-returns

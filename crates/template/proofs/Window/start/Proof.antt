@@ -34,7 +34,8 @@ add-t9 c = search needs
 
 -- src/lib.rt:45:5
 returns : tie.Need-returns
-returns c = rw (c .before .before .edge-pel .ensures .0, c .before .edge-pel2 .ensures .0, c .edge-pel3 .ensures .0) (slid-start _)
+returns c = rw (c .before .before .edge-pel .ensures .0, c .before .edge-pel2 .ensures .0, c .edge-pel3 .ensures .0)
+    (slid-start _)
 
 pub start-spec : {M : Type 1} → statement M
 start-spec =
