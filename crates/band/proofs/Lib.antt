@@ -1,3 +1,3 @@
-pub mod Laws
 pub mod One
 pub mod Worked
+pub mod EveryBand

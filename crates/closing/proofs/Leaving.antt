@@ -6,7 +6,7 @@ use mathlib.Core.List.{List, []}
 use lib.ListN.{getD, set}
 use Rattle.ground.specs.Options.{orElse}
 use Rattle.estimate.specs.declared.Table.{Table}
-use Rattle.unique.proofs.Reading.{readBack}
+use Rattle.unique.proofs.OneReader.{readBack}
 use Rattle.desk.specs.declared.Key.{Key}
 use Rattle.parts.specs.declared.Book.{Book}
 use Rattle.parts.specs.declared.Parts.{Parts}

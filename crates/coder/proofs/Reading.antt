@@ -16,7 +16,7 @@ use Rattle.coder.specs.Reading.{Reader, pelOf, readPels}
 -- The laws that make a writer and a reader a coder. Ends w c: c is a code on which a run from w can end. Beside r w c:
 -- the reader of c stands
 -- where the writer does.
-pub record Coder (W : Writer) (R : Reader) (Sized : ℕ → Type 0) : Type 1 where
+pub record IsCoder (W : Writer) (R : Reader) (Sized : ℕ → Type 0) : Type 1 where
   pub Ready : W .State → Type 0
   pub Ends : W .State → List ℕ → Type 0
   pub Beside : R .State → W .State → List ℕ → Type 0
@@ -45,7 +45,7 @@ pelOf-bit s false h = omega arith
 
 module _ (A : Model) where
   -- ---- the round trip
-  module _ (W : Writer) (R : Reader) (Sized : ℕ → Type 0) (K : Coder W R Sized) (sized : (m : A .State)
+  module _ (W : Writer) (R : Reader) (Sized : ℕ → Type 0) (K : IsCoder W R Sized) (sized : (m : A .State)
       → Sized (A .size m)) (bit : (m : A .State) → A .sense m ≤ 1) where
     abbrev expects : Stage A W → ℕ → Bool
     expects s p = eqb p (A .sense (s .model))

@@ -2,7 +2,7 @@
 -- been served whole,
 -- one after another, in the order of their closing. Assumes nothing.
 use mathlib.Core.List.{List}
-use Rattle.unique.proofs.Reading.{reading}
+use Rattle.unique.proofs.OneReader.{reading}
 use Rattle.desk.specs.Calls.{Call}
 use Rattle.serial.specs.Demand3.{Demand3}
 use Rattle.serial.proofs.Demand3.{demand3}

@@ -5,7 +5,7 @@ use mathlib.Core.Path.{_≡_, sym, ap, ap₂, _∙_}
 use mathlib.Core.List.{List}
 use Prim.Native.Nat.{ℕ}
 use Rattle.band.specs.Band.{Finder, Reader}
-use Rattle.unique.proofs.Reading.{reading, one-reader}
+use Rattle.unique.proofs.OneReader.{reading, one-reader}
 use Rattle.desk.specs.declared.Answer.{Answer}
 use Rattle.parts.specs.declared.Parts.{Parts}
 use Rattle.desk.specs.Desk.{Desk, Outcome}

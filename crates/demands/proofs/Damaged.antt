@@ -13,7 +13,7 @@ use Rattle.ground.proofs.Bools.{no-way, both, not-false}
 use Rattle.ground.specs.Options.{given}
 use Rattle.ground.proofs.Options.{none-given}
 use Rattle.band.specs.Band.{Right}
-use Rattle.unique.proofs.Reading.{readBack, right-found}
+use Rattle.unique.proofs.OneReader.{readBack, right-found}
 use Rattle.desk.specs.declared.Ask.{Ask}
 use Rattle.desk.specs.Desk.{Page, Desk, Outcome}
 use Rattle.desk.specs.Refusals.{Row, row, refusal}

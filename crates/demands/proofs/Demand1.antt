@@ -20,7 +20,7 @@ use Rattle.desk.specs.Tests.{tests}
 use Rattle.desk.proofs.Tests.{in-order}
 use Rattle.desk.specs.Effects.{Effect}
 use Rattle.desk.specs.Changes.{changed}
-use Rattle.kept.proofs.Bands.{zero-get}
+use Rattle.kept.proofs.BandsKept.{zero-get}
 use Rattle.desk.specs.Allowed.{done, unless, unlessLent, number, effectOn, outcome, lent, Allowed}
 use Rattle.demands.specs.Demand1.{isIn, Refused}
 
@@ -108,11 +108,9 @@ module _ (d : Desk) (c : Call) (r : Outcome) (after : List ℕ) (p : Allowed d c
   pub all-zero : (r .answer .number ≡ 9) ⊎ (r .answer .number ≡ 10) → (length after ≡ length (lentTo c))
       × ((i : ℕ) → getD after i 0 ≡ 0)
   unfolding lentAfter cleared
-  all-zero e = subst (λ (l : List ℕ). (length l ≡ length (lentTo c)) × ((i : ℕ) → getD l i 0 ≡ 0)) (sym (cleared-is e)) (
-    length-replicate (length
-        (lentTo c)) 0,
-    zero-get (length (lentTo c)),
-  )
+  all-zero e =
+      subst (λ (l : List ℕ). (length l ≡ length (lentTo c)) × ((i : ℕ) → getD l i 0 ≡ 0)) (sym (cleared-is e))
+      (length-replicate (length (lentTo c)) 0, zero-get (length (lentTo c)))
     where
       cleared-is : (r .answer .number ≡ 9) ⊎ (r .answer .number ≡ 10) → after ≡ replicate (length (lentTo c)) 0
       cleared-is (inl e) = refused (λ z. absurd (omega (arith, e, z))) .lent ∙ rw e

@@ -15,7 +15,7 @@ use Rattle.store.specs.Store.{inFront, front}
 use Rattle.template.specs.Pels.{rowBytes, bandPadded}
 use Rattle.limits.specs.Limits.{maxRows, maxCode}
 use Rattle.band.specs.Band.{Written, hasRoom, Finder}
-use Rattle.unique.proofs.Reading.{right-found, one-reader}
+use Rattle.unique.proofs.OneReader.{right-found, one-reader}
 use Rattle.desk.specs.declared.Key.{Key}
 use Rattle.desk.specs.declared.Ask.{Ask}
 use Rattle.desk.specs.Desk.{Page, Desk, Outcome}

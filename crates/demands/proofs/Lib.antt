@@ -4,4 +4,4 @@ pub mod Damaged
 pub mod Demand1
 pub mod Demand2
 pub mod Ran
-pub mod Worked
+pub mod WorkedRun

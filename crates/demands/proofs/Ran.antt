@@ -3,7 +3,7 @@ use mathlib.Core.Path.{_≡_, refl, sym, ap, ap₂, _∙_}
 use mathlib.Core.List.{List, _∷_}
 use Rattle.turns.specs.Service.{Entry, calls}
 use Rattle.turns.specs.Serial.{serial}
-use Rattle.unique.proofs.Reading.{reading}
+use Rattle.unique.proofs.OneReader.{reading}
 use Rattle.desk.specs.declared.Key.{Key}
 use Rattle.desk.specs.Desk.{Desk}
 use Rattle.desk.specs.Places.{emptyDesk}

@@ -5,7 +5,7 @@ use mathlib.Core.List.{List, [], _∷_}
 use Prim.Native.Nat.{ℕ}
 use lib.Dec.{eqb}
 use Rattle.band.specs.Band.{Right}
-use Rattle.unique.proofs.Reading.{readBack}
+use Rattle.unique.proofs.OneReader.{readBack}
 use Rattle.desk.specs.declared.Ask.{Ask}
 use Rattle.desk.specs.Desk.{Page, Desk}
 use Rattle.desk.specs.Refusals.{Row, refusal}

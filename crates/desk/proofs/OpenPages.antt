@@ -15,7 +15,7 @@ use Rattle.desk.specs.Desk.{Page, Desk}
 use Rattle.desk.specs.declared.Found.the-variants.{At}
 use Rattle.desk.specs.Places.{isUsed, sameKey, isPageOf, isPlaceOf, findBy, isFound, pageFound, placeFound}
 use Rattle.desk.specs.Places.{noPage}
-use Rattle.desk.specs.Lawful.{within, all, any, lawfulKey, lawfulTable, noStray, lawfulPage, lawfulPlace, apart}
+use Rattle.desk.specs.Lawful.{within, all, any, lawfulKey, lowIndexes, noStray, lawfulPage, lawfulPlace, apart}
 use Rattle.desk.specs.Lawful.{samePages, samePlaces, pageHasPlace, placeHasPage, lawful}
 
 pub within-both : (low n high : ℕ) → within low n high ≡ true → (low ≤ n) × (n ≤ high)
@@ -54,35 +54,35 @@ all-get p [] i z h k = k
 all-get p (x ∷ s) zero z h k = both (p x) (all p s) h .0
 all-get p (x ∷ s) (suc i) z h k = all-get p s i z (both (p x) (all p s) h .1) k
 
-pub table-lawful : (t : List ℕ) → lawfulTable t ≡ true → LawfulTable t
-table-lawful t l cx = leb-true (indexOf (getD t cx 0)) 29 (all-get (λ e. leb (indexOf e) 29) t cx 0 l refl)
+pub low-lawful : (t : List ℕ) → lowIndexes t ≡ true → LawfulTable t
+low-lawful t l cx = leb-true (indexOf (getD t cx 0)) 29 (all-get (λ e. leb (indexOf e) 29) t cx 0 l refl)
 
 -- ---- an open page
-pub record OpenPage (p : Page) : Type 0 where
+pub record LawfulOpen (p : Page) : Type 0 where
   pub some : 1 ≤ p .width
   pub small : p .width ≤ maxWidth
   pub table : LawfulTable (p .table .entries)
 
-page-open : (p : Page) → lawfulPage p ≡ true → isUsed (p .state) ≡ true → OpenPage p
+used-open : (p : Page) → lawfulPage p ≡ true → isUsed (p .state) ≡ true → LawfulOpen p
 unfolding lawfulPage
-page-open p l u = parts (within 1 (p .width) maxWidth) (lawfulTable (p .table .entries)) (noStray (p .width) (p .last))
+used-open p l u = parts (within 1 (p .width) maxWidth) (lowIndexes (p .table .entries)) (noStray (p .width) (p .last))
     (leb (p .state) 2)
     (lawfulKey (p .key)) refl refl (rw u at l)
   where
-    parts : (w t s a k : Bool) → within 1 (p .width) maxWidth ≡ w → lawfulTable (p .table .entries) ≡ t
+    parts : (w t s a k : Bool) → within 1 (p .width) maxWidth ≡ w → lowIndexes (p .table .entries) ≡ t
         → (a && (k && (w && (t && s)))) ≡ true
-        → OpenPage p
+        → LawfulOpen p
     parts w t s a k p q e =
         let m = both k (w && (t && s)) (both a (k && (w && (t && s))) e .1) .1 in
         let x = within-both 1 _ maxWidth (p ∙ both w (t && s) m .0) in
-        record { some = x .0; small = x .1; table = table-lawful _ (q ∙ both t s (both w (t && s) m .1) .0) }
+        record { some = x .0; small = x .1; table = low-lawful _ (q ∙ both t s (both w (t && s) m .1) .0) }
 
-pub open-page : (d : Desk) (k : Key) (i : ℕ) → lawful d ≡ true → pageFound d k ≡ At i
-    → OpenPage (getD (d .pages) i noPage)
+pub lawful-open : (d : Desk) (k : Key) (i : ℕ) → lawful d ≡ true → pageFound d k ≡ At i
+    → LawfulOpen (getD (d .pages) i noPage)
 unfolding lawful
-open-page d k i l f =
+lawful-open d k i l f =
     let a = at-found (isPageOf k) lawfulPage noPage (d .pages) i (both _ _ (both _ _ l .0) .0) f in
-    page-open (getD (d .pages) i noPage) (a .0) (both _ _ (a .1) .0)
+    used-open (getD (d .pages) i noPage) (a .0) (both _ _ (a .1) .0)
 
 -- ---- a key is its two numbers
 -- a key is the same as itself

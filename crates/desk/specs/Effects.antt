@@ -76,7 +76,8 @@ module _ (finds : Finder) where
   -- working table = the class's learned table, or the fresh one
   effect (opens ask) s = does (becomes (newPage ask (orElse (s .learned) freshTable))) stays
   -- the code in the front of the buffer
-  effect (writes ask pels out) s = let w : Written = bandOf (pageOf s) (ask .rows) pels in
+  effect (writes ask pels out) s =
+      let w : Written = bandOf (pageOf s) (ask .rows) pels in
       serves (pageOf s) w (w .code) out
   -- the rows in the front of the buffer
   effect (reads ask code out) s =
@@ -94,7 +95,6 @@ module _ (finds : Finder) where
         length = contexts;
         shifts = 0;
         lent = inFront (orElse (s .learned) noTable .entries) out;
-        page =
-            stays;
+        page = stays;
         learned = stays;
       }

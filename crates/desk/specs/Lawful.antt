@@ -35,8 +35,8 @@ abbrev pub lawfulKey : Key → Bool
 lawfulKey k = within 1 (k .school) maxKey && within 1 (k .class) maxKey
 
 -- every index is at most 29
-abbrev pub lawfulTable : List ℕ → Bool
-lawfulTable t = all (λ e. leb (indexOf e) 29) t
+abbrev pub lowIndexes : List ℕ → Bool
+lowIndexes t = all (λ e. leb (indexOf e) 29) t
 
 -- every number is zero
 abbrev pub isZero : List ℕ → Bool
@@ -51,7 +51,7 @@ unfoldable pub lawfulPage : Page → Bool
 lawfulPage p =
     cond (isUsed (p .state))
     (leb (p .state) 2
-    && (lawfulKey (p .key) && (within 1 (p .width) maxWidth && (lawfulTable (p .table .entries)
+    && (lawfulKey (p .key) && (within 1 (p .width) maxWidth && (lowIndexes (p .table .entries)
     && noStray (p .width) (p .last)))))
     (sameKey (p .key) noKey && (eqb (p .width) 0 && (isZero (p .table .entries) && isZero (p .last))))
 
@@ -60,7 +60,7 @@ lawfulPage p =
 unfoldable pub lawfulPlace : Place → Bool
 lawfulPlace q =
     cond (isUsed (q .state))
-    (leb (q .state) 2 && (lawfulKey (q .key) && cond (eqb (q .state) 2) (lawfulTable (q .table .entries))
+    (leb (q .state) 2 && (lawfulKey (q .key) && cond (eqb (q .state) 2) (lowIndexes (q .table .entries))
     (isZero (q .table .entries))))
     (sameKey (q .key) noKey && isZero (q .table .entries))
 

@@ -18,6 +18,7 @@ use Rattle.octets.proofs.Fit.{Byte, made, byte-few, AllSized, ready-run, ready-
 use Rattle.octets.proofs.Ending.{Filled, filled, fit-pad, rest-last}
 use Rattle.exact.specs.Value.{value, places, exact}
 use Rattle.exact.proofs.Agree.{Agree, agree-pad, agree-byte, same-run, same-start}
+use Rattle.ground.proofs.Powers.{double-first}
 
 agree-pads : (n : ℕ) (w : Registers) (low m : ℕ) → Fit w → w .until ≡ n → Agree w low m
     → Agree (pads n w) (low * 2 ^ n) (m + n)
@@ -27,10 +28,7 @@ agree-pads (suc n) w low m f e g =
     let r : Rest w = record { fit = f; wait = omega arith } in
     let i : Agree (pads n (pad w)) (2 * low * 2 ^ n) (suc m + n) = agree-pads n (pad w) (2 * low) (suc m) (fit-pad w r)
     (omega arith) (agree-pad w low m r g) in
-    subst₂ (λ (x y : ℕ). Agree (pads n (pad w)) x y) (scale low n) (omega arith) i
-  where
-    scale : (low n : ℕ) → 2 * low * 2 ^ n ≡ low * 2 ^ suc n
-    scale low n = let k : low * 2 ^ suc n ≡ low * (2 * 2 ^ n) = ap (λ (x : ℕ). low * x) (pow-succ' 2 n) in omega arith
+    subst₂ (λ (x y : ℕ). Agree (pads n (pad w)) x y) (double-first low n) (omega arith) i
 
 agree-last : (w : Registers) (low m : ℕ) → Rest w → Agree w low m → Agree (lastByte w) (low * 2 ^ w .until)
     (m + w .until)

@@ -1,4 +1,5 @@
 pub mod Bools
 pub mod Options
+pub mod Powers
 pub mod Tables
 pub mod Tests

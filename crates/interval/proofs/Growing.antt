@@ -2,7 +2,7 @@
 use mathlib.Core.Path.{_≡_, refl, sym, ap, _∙_}
 use mathlib.Core.Bool.{Bool, true, false, cond}
 use Prim.Native.Nat.{ℕ, zero, suc, _+_, _*_, _^_, _≤_, _<_}
-use native.Mathlib.Nat.{pow-succ', mul-one, add-zero}
+use native.Mathlib.Nat.{mul-one, add-zero}
 use native.Mathlib.Omega.{arith}
 use lib.Dec.{ltb}
 use borrow.Author.Tests.{lt-ltb}
@@ -10,6 +10,7 @@ use Rattle.limits.specs.Limits.{maxShifts}
 use Rattle.ground.proofs.Tests.{if-ge, by-cond₂, by-cond}
 use Rattle.interval.specs.declared.Interval.{Interval}
 use Rattle.interval.specs.Interval.{decision, partOf, doubled, grown, doublings}
+use Rattle.ground.proofs.Powers.{double-first}
 
 -- k doublings at once
 abbrev pub jumped : ℕ → Interval → Interval
@@ -24,11 +25,13 @@ jumped-none i = λ j. record {
 }
 
 pub jumped-more : (k : ℕ) (i : Interval) → jumped k (doubled i) ≡ jumped (suc k) i
-jumped-more k i = λ j. record { low = num (i .low) j; width = num (i .width) j; count = up (i .count) j }
+jumped-more k i = λ j. record {
+  low = double-first (i .low) k j;
+  width = double-first (i .width) k j;
+  count =
+      up (i .count) j;
+}
   where
-    num : (x : ℕ) → 2 * x * 2 ^ k ≡ x * 2 ^ suc k
-    num x = let e : x * 2 ^ suc k ≡ x * (2 * 2 ^ k) = ap (λ (y : ℕ). x * y) (pow-succ' 2 k) in omega arith
-
     up : (s : ℕ) → suc s + k ≡ s + suc k
     up s = omega arith
 

@@ -22,14 +22,14 @@ use Rattle.desk.specs.declared.Direction.{Direction}
 use Rattle.desk.specs.declared.Direction.the-variants as way
 use Rattle.desk.specs.Desk.{Page, Place, Desk}
 use Rattle.desk.specs.Places.{stateFor, isUsed, isLearned, noPage}
-use Rattle.desk.specs.Lawful.{all, within, lawfulKey, lawfulTable, noStray, lawfulPage, lawfulPlace}
+use Rattle.desk.specs.Lawful.{all, within, lawfulKey, lowIndexes, noStray, lawfulPage, lawfulPlace}
 use Rattle.desk.proofs.OpenPages.{key-only}
 use Rattle.desk.specs.Standing.{Stand, pageOf, stand}
 use Rattle.desk.specs.Tests.{bandOf}
 use Rattle.desk.specs.Effects.{Effect, becomes, freshTable, newPage, servedPage}
 use Rattle.kept.proofs.View.{K, viewPageBy, learned-used}
 use Rattle.kept.proofs.Sound.{Sound}
-use Rattle.kept.proofs.Bands.{table-lawful, white-clear, last-clear}
+use Rattle.kept.proofs.BandsKept.{written-low, white-clear, last-clear}
 use Rattle.kept.proofs.Cells.{page-own, place-own}
 use Rattle.kept.proofs.Stored.{Clean, LawfulPage, LawfulTable}
 
@@ -39,7 +39,7 @@ pub record PageFacts (p : Page) : Type 0 where
   pub state : leb (p .state) 2 ≡ true
   pub key : lawfulKey (p .key) ≡ true
   pub width : within 1 (p .width) maxWidth ≡ true
-  pub table : lawfulTable (p .table .entries) ≡ true
+  pub table : lowIndexes (p .table .entries) ≡ true
   pub clear : noStray (p .width) (p .last) ≡ true
 
 page-facts : (p : Page) → lawfulPage p ≡ true → isUsed (p .state) ≡ true → PageFacts p
@@ -55,10 +55,10 @@ facts-page : (p : Page) → PageFacts p → lawfulPage p ≡ true
 unfolding lawfulPage
 facts-page p f = rw (f .used, f .state, f .key, f .width, f .table, f .clear)
 
-place-table : (q : Place) → lawfulPlace q ≡ true → isLearned (q .state) ≡ true → lawfulTable (q .table .entries) ≡ true
+place-table : (q : Place) → lawfulPlace q ≡ true → isLearned (q .state) ≡ true → lowIndexes (q .table .entries) ≡ true
 unfolding lawfulPlace
 place-table q h l =
-    both (lawfulKey (q .key)) (lawfulTable (q .table .entries))
+    both (lawfulKey (q .key)) (lowIndexes (q .table .entries))
     (both (leb (q .state) 2) _ (rw (learned-used (q .state) l, l) at h) .1) .1
 
 -- ---- what a call meets at a lawful desk
@@ -67,7 +67,7 @@ under s = cell (s .learned) (s .page)
 
 pub record Owned (k : Key) (s : Stand) : Type 0 where
   pub page : (p : Page) → s .page ≡ some p → PageFacts p × (p .key ≡ k)
-  pub learned : (t : Table) → s .learned ≡ some t → lawfulTable (t .entries) ≡ true
+  pub learned : (t : Table) → s .learned ≡ some t → lowIndexes (t .entries) ≡ true
 
 pub owned : (d : Desk) → Sound d → (k : Key) → Owned k (stand d k)
 unfolding stand
@@ -84,7 +84,7 @@ pub record Fair (k : Key) (s : Stand) (e : Effect) : Type 0 where
   pub page : LawfulPage k (e .page)
   pub table : LawfulTable (e .learned)
 
-fresh-lawful : lawfulTable fresh ≡ true
+fresh-lawful : lowIndexes fresh ≡ true
 unfolding fresh all
 fresh-lawful = refl
 
@@ -124,7 +124,7 @@ module _ (k : Key) (s : Stand) (o : Owned k s) where
               state = f .0 .state;
               key = f .0 .key;
               width = f .0 .width;
-              table = table-lawful (p .width) rows (p .table .entries) (p .last) pels (f .0 .table);
+              table = written-low (p .width) rows (p .table .entries) (p .last) pels (f .0 .table);
               clear = last-clear (p .width) rows pels wide r l h;
             }),
       )
@@ -138,16 +138,16 @@ module _ (k : Key) (s : Stand) (o : Owned k s) where
   found-fair rows code (some band) r h g n = band-fair rows band g n (r .0 .size) (r .0 .padded)
   found-fair rows code none r h g n = no-way h
 
-  pub start-lawful : lawfulTable (orElse (s .learned) freshTable .entries) ≡ true
+  pub start-lawful : lowIndexes (orElse (s .learned) freshTable .entries) ≡ true
   start-lawful = go (s .learned) refl
     where
-      go : (t : Option Table) → s .learned ≡ t → lawfulTable (orElse t freshTable .entries) ≡ true
+      go : (t : Option Table) → s .learned ≡ t → lowIndexes (orElse t freshTable .entries) ≡ true
       go none e = fresh-lawful
       go (some t) e = o .learned t e
 
 -- a new page
 pub new-fair : (ask : Opening) (t : Table) → lawfulKey (ask .key) ≡ true → within 1 (ask .width) maxWidth ≡ true
-    → lawfulTable (t .entries) ≡ true
+    → lowIndexes (t .entries) ≡ true
     → LawfulPage (ask .key) (becomes (newPage ask t))
 unfolding newPage
 new-fair ask t h w l = (

@@ -29,7 +29,7 @@ use Rattle.desk.proofs.KindLaws.{KindLaw, kind-law}
 use Rattle.kept.proofs.View.{K, shelves, Shelf}
 use Rattle.kept.proofs.Sound.{Sound, lawful-sound, sound-lawful}
 use Rattle.kept.proofs.Cells.{cellOf, page-is, learned-is}
-use Rattle.kept.proofs.Changes.{slot-room, place-room}
+use Rattle.kept.proofs.ChangesKept.{slot-room, place-room}
 use Rattle.kept.proofs.Stored.{Stored, stored-sound, stored-others, cellAfter, changed-stored, Clean}
 use Rattle.kept.proofs.Fair.{under, owned, Fair}
 use Rattle.kept.proofs.Room.{roomy, pageWanted, placeWanted, withRoom}

@@ -1,6 +1,4 @@
-pub mod Bands
 pub mod Cells
-pub mod Changes
 pub mod Fair
 pub mod Kept
 pub mod Law
@@ -9,3 +7,5 @@ pub mod Room
 pub mod Sound
 pub mod Stored
 pub mod View
+pub mod BandsKept
+pub mod ChangesKept

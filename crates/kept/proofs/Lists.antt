@@ -8,7 +8,7 @@ use native.Mathlib.Omega.{arith}
 use lib.ListN.{getD, set}
 use Rattle.ground.specs.Options.{given}
 use Rattle.ground.proofs.Bools.{no-way, both, and-true}
-use Rattle.turns.proofs.Rows.{atFirst}
+use Rattle.turns.proofs.SlotRows.{atFirst}
 use Rattle.desk.specs.declared.Found.{Found}
 use Rattle.desk.specs.declared.Found.the-variants.{At, Nothing}
 use Rattle.desk.specs.Places.{findBy, isFound}

@@ -15,16 +15,16 @@ use Rattle.desk.specs.Desk.{Page, Place, Desk}
 use Rattle.desk.specs.Places.{zeroTable, unusedPage, freePlace, sameKey, isPageOf, isPlaceOf, isTableOf, isFreePage}
 use Rattle.desk.specs.Places.{isFreePlace}
 use Rattle.desk.specs.Places.{pageFound, placeFound, tableFound, freePageFound, freePlaceFound, isFound}
-use Rattle.desk.specs.Lawful.{all, lawfulKey, lawfulTable, lawfulPage, lawfulPlace}
+use Rattle.desk.specs.Lawful.{all, lawfulKey, lowIndexes, lawfulPage, lawfulPlace}
 use Rattle.desk.specs.Effects.{Change, stays, gone, becomes, afterwards}
 use Rattle.desk.specs.Changes.{learnedPlace, reservedPlace, setAt, orFree, pagesAfter, placesAfter, changed}
 use Rattle.kept.proofs.Lists.{set-found, all-first}
 use Rattle.kept.proofs.View.{K, viewPage, viewPlace, Shelf, shelves}
 use Rattle.kept.proofs.Sound.{Sound}
 use Rattle.kept.proofs.Cells.{cellOf, page-found, table-found}
-use Rattle.kept.proofs.Changes.{Places, page-gone, page-changed, page-taken, page-kept, place-freed}
-use Rattle.kept.proofs.Changes.{place-changed, place-taken, place-kept, table-freed, store-by, place-given}
-use Rattle.kept.proofs.Changes.{paged, learned-same, open-same}
+use Rattle.kept.proofs.ChangesKept.{Places, page-gone, page-changed, page-taken, page-kept, place-freed}
+use Rattle.kept.proofs.ChangesKept.{place-changed, place-taken, place-kept, table-freed, store-by, place-given}
+use Rattle.kept.proofs.ChangesKept.{paged, learned-same, open-same}
 
 -- the cell y is stored under k
 pub record Stored (d d′ : Desk) (k : Key) (y : Cell Table Page) : Type 0 where
@@ -78,7 +78,7 @@ LawfulPage k (becomes p) = (viewPage p ≡ named K Page k p) × (lawfulPage p �
 abbrev pub LawfulTable : Change Table → Type 0
 LawfulTable stays = Unit {0}
 LawfulTable gone = Unit {0}
-LawfulTable (becomes t) = lawfulTable (t .entries) ≡ true
+LawfulTable (becomes t) = lowIndexes (t .entries) ≡ true
 
 -- unused room is lawful, and so are a learned and a reserved place
 unused-lawful : lawfulPage unusedPage ≡ true
@@ -89,7 +89,7 @@ free-lawful : lawfulPlace freePlace ≡ true
 unfolding lawfulPlace freePlace zeroTable all
 free-lawful = refl
 
-learned-lawful : (k : Key) (t : Table) → lawfulKey k ≡ true → lawfulTable (t .entries) ≡ true
+learned-lawful : (k : Key) (t : Table) → lawfulKey k ≡ true → lowIndexes (t .entries) ≡ true
     → lawfulPlace (learnedPlace k t)
     ≡ true
 unfolding lawfulPlace learnedPlace
@@ -148,7 +148,7 @@ module _ (d : Desk) (s : Sound d) (k : Key) (known : lawfulKey k ≡ true) where
       (all lawfulPlace qs ≡ true)
 
   -- a table learned: in the class's place, or in the lowest free one
-  learned-stored : (p : Change Page) (t : Table) → lawfulTable (t .entries) ≡ true
+  learned-stored : (p : Change Page) (t : Table) → lowIndexes (t .entries) ≡ true
       → PlacesStored (setAt (orFree (placeFound d k)
       (freePlaceFound d)) (learnedPlace k t) (d .places)) p (becomes t)
   unfolding learnedPlace

@@ -10,7 +10,7 @@ use Rattle.ground.specs.Options.{given}
 use Rattle.ground.proofs.Options.{mapped}
 use Rattle.turns.specs.Service.{Keys}
 use Rattle.turns.proofs.Slots.{Named, named, find, free, Lone}
-use Rattle.turns.proofs.Rows.{atFirst, map-first, hasName, isFree}
+use Rattle.turns.proofs.SlotRows.{atFirst, map-first, hasName, isFree}
 use Rattle.turns.proofs.Shelves.{join, Shelves}
 use Rattle.estimate.specs.declared.Table.{Table}
 use Rattle.desk.specs.declared.Key.{Key}

@@ -23,7 +23,7 @@ use Rattle.parts.specs.Lines.{pageLineOf, placeLineOf, noPageLine, noPlaceLine}
 use Rattle.parts.proofs.Lines.{get-pages, get-places, lines-off, place-lines-off}
 use Rattle.lawful.specs.Highest.{low, topEntry}
 use Rattle.lawful.proofs.HighestByte.{entries-low, zero-low, table-low}
-use Rattle.lawful.specs.Loops.{each}
+use Rattle.lawful.specs.Every.{each}
 use Rattle.lawful.specs.Each.{unusedRight, openRight, pageKnown, placeKnown, pageRight, placeRight}
 
 -- ---- their tests, as they are made

@@ -10,7 +10,7 @@ use lib.ListN.{length, drop, getD, drop-of-length-le}
 use lib.Seq.{drop-cons}
 use borrow.Author.Tests.{ltb-true, ltb-false, leb-true, leb-false, le-leb, lt-leb, eq-eqb, ne-eqb}
 use Rattle.estimate.specs.Estimate.{indexOf}
-use Rattle.desk.specs.Lawful.{all, lawfulTable, isZero}
+use Rattle.desk.specs.Lawful.{all, lowIndexes, isZero}
 use Rattle.lawful.specs.Highest.{higher, highestFrom, low, topEntry}
 
 higher-low : (n h x : ℕ) → leb (higher h x) n ≡ (leb h n && leb x n)
@@ -25,11 +25,11 @@ higher-low n h x = go (ltb h x) (leb h n) (leb x n) refl refl refl
 -- the highest is at most n where all are
 highest-low : (n h : ℕ) (xs : List ℕ) → leb (highestFrom h xs) n ≡ (leb h n && low n xs)
 unfolding highestFrom all
-highest-low n h [] = and-true (leb h n)
+highest-low n h [] = with-true (leb h n)
   where
-    and-true : (b : Bool) → b ≡ (b && true)
-    and-true true = refl
-    and-true false = refl
+    with-true : (b : Bool) → b ≡ (b && true)
+    with-true true = refl
+    with-true false = refl
 highest-low n h (x ∷ xs) = highest-low n (higher h x) xs ∙ ap (λ (b : Bool). b && low n xs) (higher-low n h x)
     ∙ assoc (leb h n) (leb x n) (low n xs)
   where
@@ -41,7 +41,7 @@ pub all-low : (n : ℕ) (xs : List ℕ) → leb (highestFrom 0 xs) n ≡ low n x
 all-low n xs = highest-low n 0 xs ∙ ap (λ (b : Bool). b && low n xs) (le-leb 0 n (omega arith))
 
 -- ---- what it decides: indexes of at most 29, and zero
-pub entries-low : (xs : List ℕ) → low 59 xs ≡ lawfulTable xs
+pub entries-low : (xs : List ℕ) → low 59 xs ≡ lowIndexes xs
 entries-low xs = ap (λ (test : ℕ → Bool). all test xs) (λ i x. half x i)
   where
     half : (x : ℕ) → leb x 59 ≡ leb (indexOf x) 29
@@ -61,10 +61,10 @@ zero-low xs = ap (λ (test : ℕ → Bool). all test xs) (λ i x. none x i)
         go true e = let k = leb-true x 0 e in e ∙ sym (eq-eqb x 0 (omega arith))
         go false e = let k = leb-false x 0 e in e ∙ sym (ne-eqb x 0 (λ z. omega arith))
 
-pub table-low : (state : ℕ) (xs : List ℕ) → low (topEntry state) xs ≡ cond (eqb state 2) (lawfulTable xs) (isZero xs)
+pub table-low : (state : ℕ) (xs : List ℕ) → low (topEntry state) xs ≡ cond (eqb state 2) (lowIndexes xs) (isZero xs)
 table-low state xs = go (eqb state 2)
   where
-    go : (b : Bool) → low (cond b 59 0) xs ≡ cond b (lawfulTable xs) (isZero xs)
+    go : (b : Bool) → low (cond b 59 0) xs ≡ cond b (lowIndexes xs) (isZero xs)
     go true = entries-low xs
     go false = zero-low xs
 

@@ -1,3 +1,3 @@
 pub mod Each
 pub mod HighestByte
-pub mod Loops
+pub mod Every

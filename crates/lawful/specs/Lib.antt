@@ -1,3 +1,3 @@
-pub mod Loops
 pub mod Highest
 pub mod Each
+pub mod Every

@@ -8,7 +8,7 @@ ghost use Rattle.parts.specs.Parts.{asPage, asPlace, pagesOf, placesOf, partsOf
 ghost use Rattle.parts.specs.Lines.{noPageLine, noPlaceLine};
 ghost use Rattle.desk.specs.Lawful.{within, lawfulKey, noStray, lawfulPage, lawfulPlace, lawful};
 ghost use Rattle.lawful.specs.Highest.{higher, highestFrom, low, topEntry};
-ghost use Rattle.lawful.specs.Loops.{each};
+ghost use Rattle.lawful.specs.Every.{each};
 ghost use Rattle.lawful.specs.Each.{openRight, unusedRight, pageKnown, placeKnown, pageRight, placeRight};
 ghost use Rattle.lawful.specs.Each.{hasPage, hasPlace};
 use desk::Key;

@@ -2,7 +2,7 @@
 use mathlib.Core.Path.{_≡_, refl, sym, ap, _∙_, subst}
 use mathlib.Core.Logic.{_≢_}
 use Prim.Native.Nat.{ℕ, zero, suc, _+_, _-_, _*_, _%_, _^_, _≤_, _<_}
-use native.Mathlib.Nat.{pow-succ', mul-one, sub-zero}
+use native.Mathlib.Nat.{mul-one, sub-zero}
 use native.Mathlib.Omega.{arith}
 use mathlib.Core.List.{List, [], _∷_, _++_, append-assoc}
 use lib.ListN.{length, take, set, length-set}
@@ -17,6 +17,7 @@ use Rattle.octets.specs.Fit.{Fit, Rest}
 use Rattle.octets.proofs.Fit.{fit-byte, byte-few, bits-few}
 use Rattle.octets.proofs.Loops.{behind, behind-cover}
 use Rattle.octets.specs.Lift.{Out}
+use Rattle.ground.proofs.Powers.{double-first}
 
 -- ---- zeros are shifted in
 pub fit-pad : (w : Registers) → Rest w → Fit (pad w)
@@ -73,7 +74,7 @@ shifted (suc n) w =
     shifted n (pad w)
     ∙ (λ i. record {
       interval = record {
-        low = num (w .interval .low) i;
+        low = double-first (w .interval .low) n i;
         width = w .interval .width;
         count =
             w .interval .count;
@@ -83,9 +84,6 @@ shifted (suc n) w =
       settled = w .settled;
     })
   where
-    num : (x : ℕ) → 2 * x * 2 ^ n ≡ x * 2 ^ suc n
-    num x = let e : x * 2 ^ suc n ≡ x * (2 * 2 ^ n) = ap (λ (y : ℕ). x * y) (pow-succ' 2 n) in omega arith
-
     down : (t : ℕ) → t - 1 - n ≡ t - suc n
     down t = omega arith
 

@@ -10,7 +10,7 @@ use Rattle.limits.specs.Limits.{maxWidth}
 use Rattle.estimate.specs.declared.Table.{Table}
 use Rattle.estimate.specs.Estimate.{fresh}
 use Rattle.band.specs.Band.{white}
-use Rattle.unique.proofs.Reading.{readBack}
+use Rattle.unique.proofs.OneReader.{readBack}
 use Rattle.parts.specs.declared.Book.{Book}
 use Rattle.parts.specs.declared.Parts.{Parts}
 use Rattle.parts.specs.declared.PageLine.{PageLine}

@@ -18,8 +18,8 @@ use Rattle.exact.specs.Sight.{opened}
 use Rattle.store.specs.Store.{inFront, cleared}
 use Rattle.template.specs.Pels.{rowBytes, bandTo}
 use Rattle.band.specs.Band.{qWriter, qPage, pageAt, written, lastRow}
-use Rattle.writer.proofs.Bands.{finish-behind}
-use Rattle.reader.specs.declared.Reading.{Reading}
+use Rattle.writer.proofs.RowByRow.{finish-behind}
+use Rattle.reader.specs.declared.Progress.{Progress}
 use Rattle.unique.specs.QCoder.{qReader}
 use Rattle.reader.specs.ReadRow.{matches, reads}
 use Rattle.reader.proofs.ReadRow.{matches-append}
@@ -28,7 +28,7 @@ use Rattle.reader.specs.Found.{rowsFit, readAnswer, readOut, BandFound}
 use Rattle.reader.proofs.Verdict.{agreed, agrees}
 use Rattle.unique.proofs.BandPels.{reads-written, code-of-pels}
 
-module _ (width rows : ℕ) (table : Table) (last given out₀ above : List ℕ) (r : Reading) (out : List ℕ)
+module _ (width rows : ℕ) (table : Table) (last given out₀ above : List ℕ) (r : Progress) (out : List ℕ)
     (b : BandRead width last given (table .entries) out₀ above r out rows)
     (lasts : List ℕ) (e : lasts ≡ bytes (finish (lift (r .coder) []))) (more : 1 ≤ length lasts)
     (fits : rowsFit width rows out₀ ≡ true) where

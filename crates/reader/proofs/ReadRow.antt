@@ -15,7 +15,7 @@ use Rattle.coder.proofs.Writing.{after-append}
 use Rattle.coder.specs.Reading.{readPels, pelOf}
 use Rattle.coder.specs.Page.{Page, contextOf, entryAt, size, sense, move}
 use Rattle.estimate.specs.Estimate.{rowOf, LawfulTable}
-use Rattle.estimate.proofs.Laws.{set-lawful}
+use Rattle.estimate.proofs.LawfulEntries.{set-lawful}
 use Rattle.octets.specs.declared.Coder.{Coder}
 use Rattle.octets.specs.Fit.{Ready}
 use Rattle.octets.specs.Lift.{lift}
@@ -27,8 +27,8 @@ use Rattle.template.proofs.Sliding.{slid-next, slid-small, length-pels, pels-bi
 use Rattle.template.specs.Packing.{Row}
 use Rattle.template.proofs.Packing.{row-next, pels-next, byte-room}
 use Rattle.band.specs.Band.{qScheme, qWriter, qPage}
-use Rattle.row.specs.Rows.{Pelled, bytesOf, stageOf, pageOf, through}
-use Rattle.row.proofs.Rows.{page-within, step-within, few-bytes, pelled-ready, pelled-count, pelled-lawful}
+use Rattle.row.specs.WrittenRow.{Pelled, bytesOf, stageOf, pageOf, through}
+use Rattle.row.proofs.WrittenRow.{page-within, step-within, few-bytes, pelled-ready, pelled-count, pelled-lawful}
 use Rattle.interval.specs.Interval.{decision, partOf}
 use Rattle.row.specs.declared.Pel.{Pel}
 use Rattle.sight.specs.declared.View.{View}
@@ -51,9 +51,9 @@ match-later code (suc n) b r h e = sym e ∙ ap (λ (k : ℕ). ltb k (length cod
     less : (n : ℕ) → suc n - 1 ≡ n
     less n = omega arith
 
-pub and-true : (g : Bool) → (g && true) ≡ g
-and-true true = refl
-and-true false = refl
+pub with-true : (g : Bool) → (g && true) ≡ g
+with-true true = refl
+with-true false = refl
 
 and-assoc : (a b c : Bool) → ((a && b) && c) ≡ (a && (b && c))
 and-assoc true b c = refl
@@ -131,7 +131,7 @@ module _ (width : ℕ) (above t₀ : List ℕ) (c₀ : Coder) (code : List ℕ) 
         stage = refl;
         read = λ n. ap (λ (k : ℕ). reads width k (pageOf width t₀ above []) (sightOf v₀ (c₀ .interval .width) code))
             (native.Mathlib.Nat.zero-add n);
-        matched = sym (and-true good₀);
+        matched = sym (with-true good₀);
         place = omega arith;
         few = omega arith;
         slid = s;

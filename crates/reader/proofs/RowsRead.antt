@@ -21,21 +21,21 @@ use Rattle.octets.specs.Lift.{lift}
 use Rattle.exact.specs.Sight.{Sight, opened}
 use Rattle.template.specs.Pels.{rowBytes, pelsTo, bandTo, bandPadded}
 use Rattle.band.specs.Band.{IsBand, qWriter, qPage, pageAt}
-use Rattle.row.specs.Rows.{stageOf, through}
-use Rattle.row.proofs.Rows.{lift-behind}
-use Rattle.writer.proofs.Bands.{behind-through}
-use Rattle.reader.specs.declared.Reading.{Reading}
+use Rattle.row.specs.WrittenRow.{stageOf, through}
+use Rattle.row.proofs.WrittenRow.{lift-behind}
+use Rattle.writer.proofs.RowByRow.{behind-through}
+use Rattle.reader.specs.declared.Progress.{Progress}
 use Rattle.reader.specs.declared.Line.{Line}
 use Rattle.sight.specs.Views.{sightOf}
 use Rattle.reader.specs.ReadRow.{matches, reads}
 use Rattle.reader.proofs.ReadRow.{matches-append}
-use Rattle.reader.specs.Lines.{LineRead}
+use Rattle.reader.specs.RowRead.{LineRead}
 use Rattle.reader.proofs.ReadBand.{pels-grow, padded-grow, last-grow, front-size, front-pels, front-padded}
 use Rattle.reader.proofs.ReadBand.{front-octets, row-is}
 use Rattle.reader.specs.Reads.{BandRead, begun}
 
 module _ (width : ℕ) (last code t₀ out₀ : List ℕ) where
-  pub reads-start : (r : Reading) → lift (r .coder) [] ≡ start → r .table .entries ≡ t₀ → LawfulTable t₀ → r .at ≡ 0
+  pub reads-start : (r : Progress) → lift (r .coder) [] ≡ start → r .table .entries ≡ t₀ → LawfulTable t₀ → r .at ≡ 0
       → r .good ≡ true → sightOf (r .view) 4096 code ≡ opened code
       → r .view .at ≤ length code → r .view .look ≤ 7 → r .view .x < 2 ^ 32 → (BandRead width last code t₀ out₀)
       last r out₀ 0
@@ -71,7 +71,7 @@ module _ (width : ℕ) (last code t₀ out₀ : List ℕ) where
       none h = omega arith
 
   -- a row more
-  module _ (above : List ℕ) (s : Reading) (out : List ℕ) (y : ℕ) (b : (BandRead width last code t₀ out₀) above s out y)
+  module _ (above : List ℕ) (s : Progress) (out : List ℕ) (y : ℕ) (b : (BandRead width last code t₀ out₀) above s out y)
       (some : 1 ≤ width) (narrow : width ≤ maxWidth) (l : Line) (f : LineRead width (pelsTo above width) code s l) where
     abbrev bytes : ℕ
     bytes = rowBytes width

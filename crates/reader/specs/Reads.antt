@@ -12,8 +12,8 @@ use Rattle.octets.specs.Lift.{lift}
 use Rattle.exact.specs.Sight.{opened}
 use Rattle.template.specs.Pels.{rowBytes, pelsTo, rowAt, bandTo}
 use Rattle.band.specs.Band.{IsBand, qWriter, qPage, pageAt}
-use Rattle.row.specs.Rows.{stageOf, through}
-use Rattle.reader.specs.declared.Reading.{Reading}
+use Rattle.row.specs.WrittenRow.{stageOf, through}
+use Rattle.reader.specs.declared.Progress.{Progress}
 use Rattle.sight.specs.Views.{sightOf}
 use Rattle.reader.specs.ReadRow.{matches, reads}
 
@@ -22,7 +22,7 @@ module _ (width : ℕ) (last code t₀ out₀ : List ℕ) where
   begun = stageOf width (pageAt width t₀ last) start
 
   -- y rows are read; `above` is the last of them, in its room
-  pub record BandRead (above : List ℕ) (r : Reading) (out : List ℕ) (y : ℕ) : Type 0 where
+  pub record BandRead (above : List ℕ) (r : Progress) (out : List ℕ) (y : ℕ) : Type 0 where
     pub band : List ℕ
     pub isBand : IsBand width y band
     pub front : out ≡ band ++ drop (y * rowBytes width) out₀

@@ -13,7 +13,7 @@ ghost use Rattle.octets.specs.Fit.{Ready};
 ghost use Rattle.octets.specs.Lift.{lift};
 ghost use Rattle.exact.specs.Sight as law;
 ghost use Rattle.reader.specs.ReadRow.{matchAt, matches};
-ghost use Rattle.reader.specs.Lines.{LineRead};
+ghost use Rattle.reader.specs.RowRead.{LineRead};
 ghost use Rattle.reader.specs.Reads.{BandRead};
 ghost use Rattle.reader.specs.Found.{BandFound};
 use estimate::Table;
@@ -24,7 +24,7 @@ use template::Window;
 
 // Where a reading stands: the writer's registers, the table, the bytes settled so far, whether each agreed with the
 // code, and what is in sight.
-pub struct Reading {
+pub struct Progress {
     pub coder: Coder,
     pub table: Table,
     pub at: usize,
@@ -35,7 +35,7 @@ pub struct Reading {
 // A row read, in the room that a page has for its last row, and where the reading stands then.
 pub struct Line {
     pub row: [u8; ROW],
-    pub reading: Reading,
+    pub reading: Progress,
 }
 
 // Whether a settled byte is the code's; the very first, which is no part of the code, always is.
@@ -93,7 +93,7 @@ fn run_end(above: &[u8], width: usize, x: usize, known: usize) -> usize
 }
 
 // One row, under the row above it.
-pub fn read_row(code: &[u8], above: &[u8], width: usize, start: Reading) -> Line
+pub fn read_row(code: &[u8], above: &[u8], width: usize, start: Progress) -> Line
     requires { ⌜ (width ≤ maxWidth) × (width ≤ 8 * length (now above)) × (1 ≤ width)
         × LawfulTable (start .table .entries) × Ready (lift (start .coder) [])
         × (start .coder .interval .count + 12 * maxWidth ≤ maxShifts) × (start .at + 2 * maxWidth ≤ farthest)
@@ -143,7 +143,7 @@ pub fn read_row(code: &[u8], above: &[u8], width: usize, start: Reading) -> Line
     }
     Line {
         row: row,
-        reading: Reading {
+        reading: Progress {
             coder: coder,
             table: table,
             at: at,
@@ -166,7 +166,7 @@ pub struct Read {
 
 // The rows of a band: where the reading stands, and the last of them.
 pub struct Rows {
-    pub reading: Reading,
+    pub reading: Progress,
     pub last: [u8; ROW],
 }
 
@@ -188,7 +188,7 @@ pub fn read_rows(
     let coder = Coder::start();
     let view = View::start(code);
     let mut above = last;
-    let mut reading = Reading {
+    let mut reading = Progress {
         coder: coder,
         table: table,
         at: 0,

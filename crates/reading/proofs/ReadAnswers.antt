@@ -15,7 +15,7 @@ use Rattle.template.specs.Pels.{rowBytes}
 use Rattle.band.specs.Band.{Written}
 use Rattle.reader.specs.declared.Read.{Read}
 use Rattle.reader.specs.Found.{rowsFit, readAnswer, readOut, BandFound}
-use Rattle.unique.proofs.Reading.{readBack, right-found}
+use Rattle.unique.proofs.OneReader.{readBack, right-found}
 use Rattle.desk.specs.declared.Ask.{Ask}
 use Rattle.desk.specs.Desk.{Page, Desk}
 use Rattle.desk.specs.Places.{noPage}

@@ -11,7 +11,7 @@ use borrow.Author.Tests.{ne-eqb}
 use Rattle.ground.proofs.Bools.{no-way}
 use Rattle.ground.specs.Options.{given, orElse}
 use Rattle.store.specs.Store.{cleared}
-use Rattle.unique.proofs.Reading.{readBack, reading}
+use Rattle.unique.proofs.OneReader.{readBack, reading}
 use Rattle.desk.specs.declared.Key.{Key}
 use Rattle.parts.specs.declared.Book.{Book}
 use Rattle.parts.specs.declared.Parts.{Parts}

@@ -8,7 +8,7 @@ use lib.ListN.{length, getD, set}
 use Rattle.ground.specs.Options.{orElse}
 use Rattle.store.specs.Store.{inFront}
 use Rattle.band.specs.Band.{Written}
-use Rattle.unique.proofs.Reading.{readBack}
+use Rattle.unique.proofs.OneReader.{readBack}
 use Rattle.desk.specs.declared.Key.{Key}
 use Rattle.parts.specs.declared.Book.{Book}
 use Rattle.parts.specs.declared.Parts.{Parts}
@@ -22,7 +22,7 @@ use Rattle.parts.specs.Lines.{noPageLine}
 use Rattle.parts.proofs.Lines.{page-in}
 use Rattle.parts.specs.Puts.{PagePut}
 use Rattle.parts.proofs.Puts.{page-whole}
-use Rattle.desk.proofs.OpenPages.{OpenPage, open-page}
+use Rattle.desk.proofs.OpenPages.{LawfulOpen, lawful-open}
 use Rattle.desk.specs.Standing.{stand, pageOf, pageBy}
 use Rattle.desk.specs.Calls.{Call, keyOf}
 use Rattle.desk.specs.Effects.{Effect, becomes, stays, servedPage, serves}
@@ -40,8 +40,8 @@ module _ (p : Parts) (w : Whole p) (k : Key) (z : Bool) (i : ℕ) (t : Stood (de
   unfolding stand
   page-is = ap (λ (f : Found). orElse (pageBy (deskOf p) f) noPage) (t .found) ∙ page-in p w i
 
-  pub open-in : OpenPage (pageIn p i)
-  open-in = subst OpenPage (page-in p w i) (open-page (deskOf p) k i (t .good) (t .found))
+  pub open-in : LawfulOpen (pageIn p i)
+  open-in = subst LawfulOpen (page-in p w i) (lawful-open (deskOf p) k i (t .good) (t .found))
 
   -- the page goes on in its slot; no place changes, so that an abandoned page teaches nothing
   served-desk : (next : Book) (working rows : List (List ℕ)) (served : Page) → next .places ≡ p .book .places

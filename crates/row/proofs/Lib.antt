@@ -1,2 +1,2 @@
-pub mod Rows
-pub mod Runs
+pub mod WrittenRow
+pub mod WrittenRuns

@@ -10,7 +10,7 @@ ghost use Rattle.octets.specs.Lift.{lift};
 ghost use Rattle.template.specs.Pels.{pelsTo};
 ghost use Rattle.template.specs.White.{Clear};
 ghost use Rattle.limits.specs.Limits.{maxWidth, farthest, maxShifts};
-ghost use Rattle.row.specs.Rows.{stillPel, movedPel, Pelled, RowDone};
+ghost use Rattle.row.specs.WrittenRow.{stillPel, movedPel, Pelled, RowDone};
 use estimate::Table;
 use octets::Coder;
 use octets::Put;

@@ -22,7 +22,7 @@ use Rattle.kept.proofs.Cells.{cellOf, page-is, learned-is}
 use Rattle.kept.proofs.Kept.{empty-lawful}
 use Rattle.serial.specs.Run.{calling, run, after}
 use Rattle.serial.proofs.Office.{bureau, bureau-lawful}
-use Rattle.serial.proofs.Beside.{SameRun, same-run, empty-shelves, run-done}
+use Rattle.serial.proofs.KeysBeside.{SameRun, same-run, empty-shelves, run-done}
 use Rattle.serial.specs.Demand3.{left, servedCalls, Demand3}
 
 module _ (R : Reader) where

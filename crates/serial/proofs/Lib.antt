@@ -1,4 +1,4 @@
-pub mod Beside
 pub mod Bridge
 pub mod Demand3
 pub mod Office
+pub mod KeysBeside

@@ -8,7 +8,7 @@ use Rattle.ground.specs.Options.{given, orElse}
 use Rattle.ground.proofs.Options.{mapped}
 use Rattle.turns.specs.Service.{Kind, opening, band, closing, abandoning, looking, changing}
 use Rattle.turns.proofs.Office.{Cell, Result, refuse, accept, Office, cell, not-accepted}
-use Rattle.turns.proofs.Laws.{Laws, Keeping}
+use Rattle.turns.proofs.OfficeLaws.{Laws, Keeping}
 use Rattle.limits.specs.Limits.{maxPages, maxPlaces}
 use Rattle.estimate.specs.declared.Table.{Table}
 use Rattle.band.specs.Band.{Reader}

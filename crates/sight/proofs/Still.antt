@@ -11,8 +11,8 @@ use Rattle.ground.proofs.Tests.{if-ge}
 use Rattle.estimate.specs.Estimate.{rowOf}
 use Rattle.octets.specs.declared.Coder.{Coder}
 use Rattle.exact.specs.Sight.{Sight, nearer, supplied, seek, decide, above}
-use Rattle.row.specs.Rows.{stillPel}
-use Rattle.row.proofs.Rows.{pelled-still}
+use Rattle.row.specs.WrittenRow.{stillPel}
+use Rattle.row.proofs.WrittenRow.{pelled-still}
 use Rattle.sight.specs.declared.View.{View}
 use Rattle.sight.specs.declared.Told.{Told}
 use Rattle.sight.specs.Views.{sightOf, ReadPel}

@@ -2,7 +2,7 @@
 use mathlib.Core.Path.{_≡_, refl, sym, ap, _∙_, subst}
 use mathlib.Core.Logic.{_≢_}
 use Prim.Native.Nat.{ℕ, zero, suc, _+_, _-_, _*_, _%_, _^_, _≤_, _<_}
-use native.Mathlib.Nat.{mul-one, sub-zero, pow-succ', mul-le-mul}
+use native.Mathlib.Nat.{mul-one, sub-zero, mul-le-mul}
 use native.Mathlib.Omega.{arith}
 use mathlib.Core.Bool.{Bool, true, false, cond}
 use mathlib.Core.List.{List, []}
@@ -19,14 +19,15 @@ use Rattle.exact.specs.Sight.{Sight, opened, more, nearer, supplied, seek, deci
 use Rattle.coder.specs.Reading.{pelOf}
 use Rattle.coder.proofs.Reading.{pelOf-bit}
 use Rattle.estimate.specs.Estimate.{rowOf}
-use Rattle.estimate.proofs.Laws.{row-sized}
+use Rattle.estimate.proofs.LawfulEntries.{row-sized}
 use Rattle.octets.specs.declared.Coder.{Coder}
-use Rattle.row.specs.Rows.{Pelled}
+use Rattle.row.specs.WrittenRow.{Pelled}
 use Rattle.octets.specs.Lift.{lift}
 use Rattle.row.specs.declared.Pel.{Pel}
 use Rattle.sight.specs.declared.View.{View}
 use Rattle.sight.specs.declared.Told.{Told}
 use Rattle.sight.specs.Views.{seeks, sightOf, ReadPel}
+use Rattle.ground.proofs.Powers.{double-first}
 
 supplied-width : (r : Sight) → supplied r .width ≡ r .width
 unfolding supplied
@@ -66,7 +67,7 @@ seeks-few zero r h =
 seeks-few (suc k) r h =
     ap (λ (v : Sight). seeks k (nearer v)) (supplied-some r (λ e. omega arith)) ∙ seeks-few k (nearer r) (omega arith)
     ∙ (λ i. record {
-      width = twice (r .width) i;
+      width = double-first (r .width) k i;
       x = r .x;
       look = less (r .look) i;
       last = r .last;
@@ -74,9 +75,6 @@ seeks-few (suc k) r h =
           r .unread;
     })
   where
-    twice : (a : ℕ) → 2 * a * 2 ^ k ≡ a * 2 ^ suc k
-    twice a = let e : a * 2 ^ suc k ≡ a * (2 * 2 ^ k) = ap (λ (y : ℕ). a * y) (pow-succ' 2 k) in omega arith
-
     less : (l : ℕ) → l - 1 - k ≡ l - suc k
     less l = omega arith
 

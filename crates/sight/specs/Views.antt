@@ -7,7 +7,7 @@ use Rattle.exact.specs.Sight.{Sight, nearer, supplied, seek, decide, taken}
 use Rattle.coder.specs.Reading.{pelOf}
 use Rattle.estimate.specs.Estimate.{rowOf}
 use Rattle.octets.specs.declared.Coder.{Coder}
-use Rattle.row.specs.Rows.{Pelled}
+use Rattle.row.specs.WrittenRow.{Pelled}
 use Rattle.sight.specs.declared.View.{View}
 use Rattle.sight.specs.declared.Told.{Told}
 

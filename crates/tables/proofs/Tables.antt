@@ -10,7 +10,7 @@ use borrow.Author.Tests.{lt-ltb, le-ltb}
 use Rattle.limits.specs.Limits.{contexts}
 use Rattle.ground.specs.Options.{given, orElse}
 use Rattle.store.specs.Store.{inFront}
-use Rattle.unique.proofs.Reading.{readBack}
+use Rattle.unique.proofs.OneReader.{readBack}
 use Rattle.desk.specs.declared.Key.{Key}
 use Rattle.parts.specs.declared.Book.{Book}
 use Rattle.parts.specs.declared.Parts.{Parts}

@@ -12,7 +12,7 @@ use Rattle.ground.specs.Options.{given}
 use Rattle.ground.proofs.Bools.{no-way}
 use Rattle.turns.specs.Service.{Keys, Service, put, Entry, calls}
 use Rattle.turns.specs.Desk.{one}
-use Rattle.turns.proofs.Desk.{placed}
+use Rattle.turns.proofs.CellDesk.{placed}
 
 pub one-le : (b : Bool) → one b ≤ 1
 one-le true = omega arith

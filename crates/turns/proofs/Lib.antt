@@ -1,13 +1,10 @@
 pub mod Accepted
 pub mod Base
-pub mod Desk
 pub mod Example
 pub mod Held
-pub mod Laws
 pub mod Office
 pub mod Order
 pub mod Own
-pub mod Rows
 pub mod Shelves
 pub mod SlotDesk
 pub mod Slots
@@ -15,3 +12,6 @@ pub mod Steps
 pub mod Strike
 pub mod Tally
 pub mod Turns
+pub mod CellDesk
+pub mod OfficeLaws
+pub mod SlotRows

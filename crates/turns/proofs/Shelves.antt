@@ -9,7 +9,7 @@ use lib.ListN.{length}
 use Rattle.ground.specs.Options.{given}
 use Rattle.turns.specs.Service.{Keys}
 use Rattle.turns.proofs.Office.{Cell, cell}
-use Rattle.turns.proofs.Desk.{placed}
+use Rattle.turns.proofs.CellDesk.{placed}
 use Rattle.turns.proofs.Slots.{Named, Slots, find, update, used, free, Lone, Updated, updated}
 
 abbrev pub join : {A : Type 0} → Option (Option A) → Option A

@@ -8,10 +8,11 @@ use lib.ListN.{length}
 use Rattle.ground.specs.Options.{given}
 use Rattle.turns.specs.Service.{Mark, accepted, refused, crowded, Keys, keys, Entry, calls}
 use Rattle.turns.proofs.Office.{Cell, Result, refuse, accept, Office, service}
-use Rattle.turns.proofs.Desk.{hasPage, hasPlace, Desk, Outcome, newDesk, store, noPage, noPlace, admit, settle}
-use Rattle.turns.proofs.Desk.{step, run, after}
+use Rattle.turns.proofs.CellDesk.{hasPage, hasPlace, Desk, Outcome, newDesk, store, noPage, noPlace, admit}
+use Rattle.turns.proofs.CellDesk.{settle}
+use Rattle.turns.proofs.CellDesk.{step, run, after}
 use Rattle.turns.specs.Serial.{serial, Whole}
-use Rattle.turns.proofs.Laws.{Laws}
+use Rattle.turns.proofs.OfficeLaws.{Laws}
 use Rattle.turns.proofs.Turns.{Served, serialisation, shut}
 use Rattle.turns.proofs.Base.{put-each}
 use Rattle.turns.proofs.Slots.{Named, find, used, full}

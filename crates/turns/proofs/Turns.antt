@@ -17,11 +17,12 @@ use Rattle.turns.specs.Service.{Kind, opening, band, closing, abandoning
 use Rattle.turns.specs.Service.{Entry, calls, Service, Keys}
 use Rattle.turns.proofs.Office.{Cell, accept, Office, cell, service}
 use Rattle.turns.specs.Desk.{one}
-use Rattle.turns.proofs.Desk.{placed, hasPage, hasPlace, Desk, Outcome, newDesk, store, noPage, noPlace, step}
-use Rattle.turns.proofs.Desk.{entry, run, after}
+use Rattle.turns.proofs.CellDesk.{placed, hasPage, hasPlace, Desk, Outcome, newDesk, store, noPage, noPlace}
+use Rattle.turns.proofs.CellDesk.{step}
+use Rattle.turns.proofs.CellDesk.{entry, run, after}
 use Rattle.turns.specs.Serial.{Waiting, waitsAs, servesAs, serialFrom, serial, Begun, begins, goes-on, Whole}
 use Rattle.turns.specs.Serial.{nothing, page, look, change}
-use Rattle.turns.proofs.Laws.{Keeping, Laws, law-of}
+use Rattle.turns.proofs.OfficeLaws.{Keeping, Laws, law-of}
 use Rattle.turns.proofs.Base.{placed-none, only-reserved, room-down, put-each, put-both, has-one, relist-length}
 use Rattle.turns.proofs.Base.{calls-append}
 use Rattle.turns.proofs.Steps.{Step, was-refused, was-crowded, was-accepted, step-is, done, run-accepts}

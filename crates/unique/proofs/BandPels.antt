@@ -10,7 +10,7 @@ use Rattle.coder.specs.Writing.{bandCode}
 use Rattle.coder.specs.Reading.{readPels}
 use Rattle.coder.proofs.Reading.{written-read, no-two-bands}
 use Rattle.coder.specs.Page.{Page, size, sense, entryAt}
-use Rattle.estimate.proofs.Laws.{Sized, row-sized}
+use Rattle.estimate.proofs.LawfulEntries.{Sized, row-sized}
 use Rattle.exact.specs.Sight.{opened}
 use Rattle.template.specs.Pels.{pelsTo, pelAt, rowAt, bandTo}
 use Rattle.template.proofs.Sliding.{pel-bit, length-pels}

@@ -1,5 +1,5 @@
 pub mod BandPels
 pub mod QCoder
-pub mod Reading
 pub mod Search
 pub mod Unique
+pub mod OneReader

@@ -6,8 +6,8 @@ use mathlib.Core.Bool.{Bool, true, false}
 use mathlib.Core.List.{List, [], _∷_, _++_}
 use lib.ListN.{drop, getD}
 use lib.Dec.{ltb}
-use Rattle.coder.proofs.Reading.{Coder}
-use Rattle.estimate.proofs.Laws.{Sized}
+use Rattle.coder.proofs.Reading.{IsCoder}
+use Rattle.estimate.proofs.LawfulEntries.{Sized}
 use Rattle.interval.specs.Interval.{Decision, decision}
 use Rattle.octets.specs.Octets.{Registers, start, part, pel, run, finish, bytes, code}
 use Rattle.octets.proofs.Fit.{upper, lower, AllSized, ready-run, ready-start, rest-part}
@@ -123,7 +123,7 @@ module _ (q : ℕ) (w : Registers) (r : Sight) (c : List ℕ) (z : Sized q) (f :
   takes false i = sees-shifts 12 (under q r) (lower q w) (0 ∷ c) (i .total) (rest-part (decision q false) w (ready w f)
       (size q false z)) (sees-lower q r w (0 ∷ c) g) (i .going)
 
-pub qCoder : Coder qWriter qReader Sized
+pub qCoder : IsCoder qWriter qReader Sized
 qCoder =
     record {
       Ready = Reached;

@@ -14,7 +14,7 @@ use Rattle.template.specs.Pels.{rowBytes, bandPadded}
 use Rattle.writer.specs.declared.Wrote.{Wrote}
 use Rattle.band.specs.Band.{Written, hasRoom}
 use Rattle.writer.specs.Wrote.{wroteAnswer, wroteOut}
-use Rattle.unique.proofs.Reading.{readBack}
+use Rattle.unique.proofs.OneReader.{readBack}
 use Rattle.desk.specs.declared.Ask.{Ask}
 use Rattle.desk.specs.Desk.{Page, Desk}
 use Rattle.desk.specs.Lawful.{within}

@@ -1,7 +1,7 @@
 -- The next entry is the definition's, case by case. Assumes nothing.
 use native.Mathlib.Omega.{arith}
 use borrow.Author.Needs.{needs}
-use Rattle.estimate.proofs.Laws.{next-rise, next-top, next-flip, next-fall}
+use Rattle.estimate.proofs.LawfulEntries.{next-rise, next-top, next-flip, next-fall}
 use Rattle.estimate.proofs.next_entry.Statement.{statement}
 use Rattle.estimate.proofs.next_entry.Tie as tie
 

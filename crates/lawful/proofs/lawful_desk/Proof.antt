@@ -7,7 +7,7 @@ use Rattle.parts.specs.declared.PageLine.{PageLine}
 use Rattle.parts.specs.declared.PlaceLine.{PlaceLine}
 use Rattle.parts.specs.Parts.{partsOf, deskOf, Whole}
 use Rattle.parts.proofs.Lines.{lines-off, place-lines-off, tables-long, rows-long, learned-long}
-use Rattle.lawful.specs.Loops.{each}
+use Rattle.lawful.specs.Every.{each}
 use Rattle.lawful.specs.Each.{pageRight, placeRight}
 use Rattle.lawful.proofs.Each.{lawful-each}
 use borrow.Author.Needs.{needs}

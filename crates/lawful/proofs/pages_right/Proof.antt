@@ -8,8 +8,8 @@ use Rattle.limits.specs.Limits.{maxPages}
 use Rattle.parts.specs.Parts.{pagesOf}
 use Rattle.desk.specs.Places.{noPage}
 use Rattle.parts.proofs.Lines.{length-pages}
-use Rattle.lawful.specs.Loops.{each}
-use Rattle.lawful.proofs.Loops.{Left, left-starts, each-failed, each-passed, each-end}
+use Rattle.lawful.specs.Every.{each}
+use Rattle.lawful.proofs.Every.{Left, left-starts, each-failed, each-passed, each-end}
 use Rattle.lawful.specs.Each.{pageRight}
 use Rattle.lawful.proofs.Each.{page-right, both-made}
 use borrow.Author.Needs.{needs}

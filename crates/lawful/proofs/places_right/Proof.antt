@@ -8,8 +8,8 @@ use Rattle.limits.specs.Limits.{maxPlaces}
 use Rattle.parts.specs.Parts.{asPlace, placesOf}
 use Rattle.desk.specs.Places.{noPlace}
 use Rattle.parts.proofs.Beside.{length-beside}
-use Rattle.lawful.specs.Loops.{each}
-use Rattle.lawful.proofs.Loops.{Left, left-starts, each-failed, each-passed, each-end}
+use Rattle.lawful.specs.Every.{each}
+use Rattle.lawful.proofs.Every.{Left, left-starts, each-failed, each-passed, each-end}
 use Rattle.lawful.specs.Each.{placeRight}
 use Rattle.lawful.proofs.Each.{place-right, both-made}
 use borrow.Author.Needs.{needs}

@@ -7,7 +7,7 @@ use native.Mathlib.Omega.{arith}
 use borrow.Author.Needs.{needs}
 use lib.ListN.{length, take}
 use Rattle.reader.specs.ReadRow.{matches}
-use Rattle.reader.proofs.ReadRow.{matches-next, and-true}
+use Rattle.reader.proofs.ReadRow.{matches-next, with-true}
 use Rattle.reader.proofs.match_last.Statement.{statement}
 use Rattle.reader.proofs.match_last.Tie as tie
 
@@ -20,7 +20,7 @@ abbrev μ-loop : tie.MeasureT-loop
 -- src/lib.rt:313:5
 loop-holds : tie.Need-loop-holds Inv-loop μ-loop
 unfolding matches
-loop-holds c = (omega arith, sym (and-true _))
+loop-holds c = (omega arith, sym (with-true _))
 
 -- src/lib.rt:314:32
 add-match-two : tie.Need-add-match-two Inv-loop μ-loop

@@ -5,7 +5,7 @@ use native.Mathlib.Numerals.{add-one}
 use native.Mathlib.Omega.{arith}
 use borrow.Author.Tests.{not-true, not-false}
 use Rattle.reader.specs.ReadRow.{matches}
-use Rattle.reader.proofs.ReadRow.{and-true}
+use Rattle.reader.proofs.ReadRow.{with-true}
 use Rattle.reader.proofs.match_two.Statement.{statement}
 use Rattle.reader.proofs.match_two.Tie as tie
 use mathlib.Core.Bool.{true}
@@ -21,7 +21,7 @@ good c = not-false (begin c .args .good) (c .before .if2 .left)
 -- ---- the answers
 returns : tie.Need-returns
 unfolding matches
-returns c = rw (c .if1 .taken) (sym (and-true _))
+returns c = rw (c .if1 .taken) (sym (with-true _))
 
 returns-2 : tie.Need-returns-2
 returns-2 c = rw (not-true (c .before .before .before .args .good) (c .if2 .taken)) refl
@@ -31,7 +31,7 @@ match-one-requires c κs = search needs
 
 returns-3 : tie.Need-returns-3
 unfolding matches
-returns-3 c = rw (good (c .before), c .if3 .taken) (c .before .match-one .ensures ∙ sym (and-true _))
+returns-3 c = rw (good (c .before), c .if3 .taken) (c .before .match-one .ensures ∙ sym (with-true _))
 
 add-match-one : tie.Need-add-match-one
 add-match-one c = search needs
@@ -45,7 +45,7 @@ returns-4 c =
     let m = c .before .before .before in
     let n : begin m .args .n ≡ 2 = omega arith in
     rw (good m, n, ← m .match-one .ensures, c .before .if4 .taken)
-    (c .match-one2 .ensures ∙ rw add-one (sym (and-true _)))
+    (c .match-one2 .ensures ∙ rw add-one (sym (with-true _)))
 
 returns-5 : tie.Need-returns-5
 unfolding matches

@@ -10,20 +10,20 @@ use borrow.Author.Needs.{needs}
 use mathlib.Core.List.{[]}
 use lib.ListN.{getD, set}
 use Rattle.estimate.specs.declared.Table.{Table}
-use Rattle.estimate.proofs.Laws.{row-sized}
+use Rattle.estimate.proofs.LawfulEntries.{row-sized}
 use Rattle.octets.proofs.OnePel.{low-fits}
 use Rattle.template.specs.Pels.{pelsTo}
 use Rattle.template.specs.White.{Under}
 use Rattle.template.proofs.White.{under-none, under-part}
 use Rattle.template.proofs.Sliding.{pels-bits, slid-context}
 use Rattle.template.proofs.Packing.{row-none}
-use Rattle.row.specs.Rows.{bytesOf}
-use Rattle.row.proofs.Rows.{pelled-kept}
+use Rattle.row.specs.WrittenRow.{bytesOf}
+use Rattle.row.proofs.WrittenRow.{pelled-kept}
 use Rattle.sight.proofs.Views.{told-bit}
 use Rattle.reader.proofs.ReadRow.{RowRead, read-start, read-turn, read-window, read-room}
 use Rattle.reader.specs.ReadRow.{matches}
-use Rattle.reader.proofs.Runs.{told-so, match-none, read-run}
-use Rattle.reader.proofs.Lines.{line-read}
+use Rattle.reader.proofs.ReadRuns.{told-so, match-none, read-run}
+use Rattle.reader.proofs.RowRead.{line-read}
 use Rattle.reader.proofs.read_row.Statement.{statement}
 use Rattle.reader.proofs.read_row.Tie as tie
 use Prim.Native.Nat.{_<_}

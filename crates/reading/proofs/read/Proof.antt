@@ -11,7 +11,7 @@ use Rattle.parts.specs.Parts.{asPage, deskOf, partsOf}
 use Rattle.parts.specs.Lines.{noPageLine}
 use Rattle.parts.proofs.Puts.{page-as}
 use Rattle.desk.specs.Lawful.{within}
-use Rattle.desk.proofs.OpenPages.{OpenPage, within-both}
+use Rattle.desk.proofs.OpenPages.{LawfulOpen, within-both}
 use Rattle.desk.specs.Refusals.{lentAfter}
 use Rattle.desk.specs.Calls.{reads}
 use Rattle.desk.specs.Standing.{stand, pageOf}
@@ -103,7 +103,7 @@ there c =
 slot-within : (c : tie.After-known-told) → slot c < maxPages
 slot-within c = rw (c .before .stands .given .1) at (sought c .page-to .ensures .1)
 
-opened : (c : tie.After-known-told) → OpenPage (pageIn (parts (start (sought c))) (slot c))
+opened : (c : tie.After-known-told) → LawfulOpen (pageIn (parts (start (sought c))) (slot c))
 opened c =
     let b = start (sought c) in
     open-in (parts b) (whole (sought c)) (b .args .ask .key) (fits b) (slot c) (there c .stood)

@@ -2,8 +2,8 @@
 use Prim.Native.Nat.{_-_}
 use native.Mathlib.Omega.{arith}
 use mathlib.Core.Bool.{true, false}
-use Rattle.estimate.proofs.Laws.{row-sized}
-use Rattle.row.proofs.Rows.{pelled-still, pelled-moved}
+use Rattle.estimate.proofs.LawfulEntries.{row-sized}
+use Rattle.row.proofs.WrittenRow.{pelled-still, pelled-moved}
 use borrow.Author.Needs.{needs}
 use Rattle.row.proofs.put_pel.Statement.{statement}
 use Rattle.row.proofs.put_pel.Tie as tie

@@ -7,7 +7,7 @@ use native.Mathlib.Numerals.{add-one}
 use native.Mathlib.Omega.{arith}
 use borrow.Author.Needs.{needs}
 use lib.ListN.{getD, set}
-use Rattle.estimate.proofs.Laws.{row-sized}
+use Rattle.estimate.proofs.LawfulEntries.{row-sized}
 use Rattle.octets.proofs.OnePel.{low-fits}
 use Rattle.store.specs.Store.{stores}
 use Rattle.template.specs.Pels.{pelsTo}
@@ -15,10 +15,10 @@ use Rattle.template.specs.White.{Clear}
 use Rattle.template.proofs.White.{clear-none, clear-later}
 use Rattle.template.proofs.Sliding.{pels-bits, slid-context}
 use Rattle.estimate.specs.declared.Table.{Table}
-use Rattle.row.specs.Rows.{bytesOf}
-use Rattle.row.proofs.Rows.{RowAt, pelled-kept}
-use Rattle.row.proofs.Rows.{row-start, row-again, row-done, row-window, row-length}
-use Rattle.row.proofs.Runs.{row-run}
+use Rattle.row.specs.WrittenRow.{bytesOf}
+use Rattle.row.proofs.WrittenRow.{RowAt, pelled-kept}
+use Rattle.row.proofs.WrittenRow.{row-start, row-again, row-done, row-window, row-length}
+use Rattle.row.proofs.WrittenRuns.{row-run}
 use Rattle.row.proofs.write_row.Statement.{statement}
 use Rattle.row.proofs.write_row.Tie as tie
 use Prim.Native.Nat.{_<_}

@@ -4,11 +4,11 @@ use Prim.Native.Nat.{ℕ, _-_}
 use native.Mathlib.Omega.{arith}
 use mathlib.Core.Bool.{true, false}
 use Rattle.estimate.specs.Estimate.{rowOf}
-use Rattle.estimate.proofs.Laws.{row-sized}
+use Rattle.estimate.proofs.LawfulEntries.{row-sized}
 use Rattle.interval.proofs.Growing.{doublings-few}
 use Rattle.exact.proofs.Reader.{decide-true, decide-false}
-use Rattle.row.specs.Rows.{movedPel}
-use Rattle.row.proofs.Rows.{pelled-moved}
+use Rattle.row.specs.WrittenRow.{movedPel}
+use Rattle.row.proofs.WrittenRow.{pelled-moved}
 use Rattle.sight.specs.declared.View.{View}
 use Rattle.sight.specs.Views.{sightOf}
 use Rattle.sight.proofs.Views.{told-moved, part-small}

@@ -2,7 +2,7 @@
 use mathlib.Core.Path.{_≡_, refl}
 use Prim.Native.Nat.{_-_, _≤_}
 use native.Mathlib.Omega.{arith}
-use Rattle.writer.proofs.Bands.{rows-fit}
+use Rattle.writer.proofs.RowByRow.{rows-fit}
 use Rattle.writer.proofs.LastRow.{Copied, copy-more, copy-end}
 use Rattle.writer.proofs.last_row.Statement.{statement}
 use Rattle.writer.proofs.last_row.Tie as tie

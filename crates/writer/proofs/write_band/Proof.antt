@@ -6,7 +6,7 @@ use borrow.Author.Needs.{needs}
 use lib.ListN.{length, take}
 use lib.Seq.{length-take-le}
 use Rattle.template.specs.Pels.{rowAt}
-use Rattle.writer.proofs.Bands.{with-room, without-room}
+use Rattle.writer.proofs.RowByRow.{with-room, without-room}
 use Rattle.writer.proofs.write_band.Statement.{statement}
 use Rattle.writer.proofs.write_band.Tie as tie
 

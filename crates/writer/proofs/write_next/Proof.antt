@@ -4,10 +4,10 @@ use Prim.Native.Nat.{_+_, _-_, _*_}
 use native.Mathlib.Omega.{arith}
 use borrow.Author.Needs.{needs}
 use lib.ListN.{length}
-use Rattle.writer.proofs.Bands.{sizes, part-wide, row-part, row-before}
+use Rattle.writer.proofs.RowByRow.{sizes, part-wide, row-part, row-before}
 use Rattle.writer.proofs.write_next.Statement.{statement}
 use Rattle.writer.proofs.write_next.Tie as tie
-use Rattle.writer.proofs.Bands.{Sizes}
+use Rattle.writer.proofs.RowByRow.{Sizes}
 
 -- ---- the stations of a row: each is a place passed on the way, seen from a later one
 -- all begins, seen from where a row's bytes are counted

@@ -10,9 +10,9 @@ use Rattle.limits.specs.Limits.{lastBytes}
 use Rattle.template.specs.Pels.{rowAt, rowBytes}
 use Rattle.octets.specs.Fit.{Ready}
 use Rattle.octets.proofs.Fit.{ready-start}
-use Rattle.writer.specs.Bands.{BandAt}
-use Rattle.writer.proofs.Bands.{RowsKeep, band-first, start-count}
-use Rattle.writer.proofs.Bands.{keep-next, rows-fit, row-inside, band-length}
+use Rattle.writer.specs.RowByRow.{BandAt}
+use Rattle.writer.proofs.RowByRow.{RowsKeep, band-first, start-count}
+use Rattle.writer.proofs.RowByRow.{keep-next, rows-fit, row-inside, band-length}
 use Rattle.writer.proofs.write_rows.Statement.{statement}
 use Rattle.writer.proofs.write_rows.Tie as tie
 

@@ -7,17 +7,17 @@ use Rattle.octets.specs.Lift.{lift}
 use Rattle.template.specs.Pels.{pelsTo}
 use Rattle.template.specs.declared.Window.{Window}
 use Rattle.template.proofs.Sliding.{length-pels}
-use Rattle.row.specs.Rows.{stageOf, pageOf, through}
-use Rattle.row.proofs.Rows.{page-within, page-full}
-use Rattle.reader.specs.declared.Reading.{Reading}
+use Rattle.row.specs.WrittenRow.{stageOf, pageOf, through}
+use Rattle.row.proofs.WrittenRow.{page-within, page-full}
+use Rattle.reader.specs.declared.Progress.{Progress}
 use Rattle.reader.specs.declared.Line.{Line}
 use Rattle.sight.specs.Views.{sightOf}
 use Rattle.reader.specs.ReadRow.{reads}
 use Rattle.reader.proofs.ReadRow.{RowRead}
-use Rattle.reader.specs.Lines.{LineRead}
+use Rattle.reader.specs.RowRead.{LineRead}
 
 -- from where the loop ends
-module _ (width : ℕ) (above code : List ℕ) (s : Reading) (some : 1 ≤ width) (l : Line) (w : Window) (x : ℕ)
+module _ (width : ℕ) (above code : List ℕ) (s : Progress) (some : 1 ≤ width) (l : Line) (w : Window) (x : ℕ)
     (whole : x ≡ width)
     (f : RowRead width above (s .table .entries) (s .coder) code (s .at) (s .good) (s .view) (l .row)
     (l .reading .table .entries) (l .reading .coder) w (l .reading .view) (l .reading .at) (l .reading .good)

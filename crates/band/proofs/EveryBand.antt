@@ -6,7 +6,7 @@ use mathlib.Core.List.{List, [], _∷_}
 use lib.ListN.{length}
 use Rattle.coder.specs.Writing.{Stage, step, after}
 use Rattle.coder.specs.Page.{size}
-use Rattle.estimate.proofs.Laws.{row-sized}
+use Rattle.estimate.proofs.LawfulEntries.{row-sized}
 use Rattle.interval.specs.Interval.{whole}
 use Rattle.octets.specs.Octets.{Registers, run}
 use Rattle.octets.proofs.Fit.{AllSized}
@@ -15,7 +15,7 @@ use Rattle.exact.proofs.Codes.{coded, value-written, length-law}
 use Rattle.exact.proofs.Codes as exactly
 use Rattle.template.specs.Pels.{bandTo}
 use Rattle.band.specs.Band.{qWriter, qPage, written}
-use Rattle.band.specs.Laws.{decisions, opened, decided}
+use Rattle.band.specs.Decisions.{decisions, opened, decided}
 
 module _ (width : ℕ) where
   all-sized : (ps : List ℕ) (s : Stage (qPage width) qWriter) → AllSized ((decisions width) s ps)

@@ -8,7 +8,7 @@ use Rattle.ground.specs.Options.{given}
 use Rattle.ground.proofs.Options.{given-mapped}
 use Rattle.turns.proofs.Office.{Cell}
 use Rattle.turns.proofs.Slots.{Named, named, find, update}
-use Rattle.turns.proofs.Rows.{atFirst, hasName, isFree, update-same, update-free, update-new, update-take}
+use Rattle.turns.proofs.SlotRows.{atFirst, hasName, isFree, update-same, update-free, update-new, update-take}
 use Rattle.turns.proofs.Shelves.{placeOf, slotStore, noSlot, noClassPlace}
 use Rattle.estimate.specs.declared.Table.{Table}
 use Rattle.desk.specs.declared.Key.{Key}

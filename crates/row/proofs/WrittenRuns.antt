@@ -18,8 +18,8 @@ use Rattle.template.specs.declared.Window.{Window}
 use Rattle.template.proofs.Sliding.{slid-context}
 use Rattle.template.specs.White.{Clear, whiteWindow}
 use Rattle.template.proofs.White.{slid-white}
-use Rattle.row.specs.Rows.{Pelled, stillPel}
-use Rattle.row.proofs.Rows.{pelled-still, RowAt, row-again}
+use Rattle.row.specs.WrittenRow.{Pelled, stillPel}
+use Rattle.row.proofs.WrittenRow.{pelled-still, RowAt, row-again}
 
 -- ---- white pels in context 0, whose entry expects white
 module _ (width : ℕ) (above row t₀ : List ℕ) (c₀ : Coder) (out₀ : List ℕ) (at₀ : ℕ) (t out : List ℕ) (at : ℕ)

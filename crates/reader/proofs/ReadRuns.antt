@@ -19,10 +19,10 @@ use Rattle.template.proofs.Sliding.{slid-context}
 use Rattle.template.specs.White.{Under, whiteWindow}
 use Rattle.template.proofs.White.{slid-white}
 use Rattle.row.specs.declared.Pel.{Pel}
-use Rattle.row.specs.Rows.{Pelled, bytesOf}
-use Rattle.row.proofs.Rows.{pelled-quiet}
+use Rattle.row.specs.WrittenRow.{Pelled, bytesOf}
+use Rattle.row.proofs.WrittenRow.{pelled-quiet}
 use Rattle.sight.specs.declared.View.{View}
-use Rattle.reader.proofs.ReadRow.{RowRead, and-true, read-turn}
+use Rattle.reader.proofs.ReadRow.{RowRead, with-true, read-turn}
 use Rattle.reader.specs.ReadRow.{matches}
 use Rattle.sight.specs.Still.{viewBy}
 use Rattle.sight.proofs.Still.{view-none, view-more, stillTold, told-still}
@@ -32,7 +32,7 @@ pub match-none : (c : Coder) (e : ℕ) (b : Bool) (u : Pel) (code : List ℕ) (a
     → u .moved ≡ false
     → good ≡ (good && matches code at (bytesOf u))
 unfolding matches
-match-none c e b u code at good k z = sym (and-true good) ∙ ap (λ (bs : List ℕ). good && matches code at bs)
+match-none c e b u code at good k z = sym (with-true good) ∙ ap (λ (bs : List ℕ). good && matches code at bs)
     (sym (pelled-quiet c e b u k z))
 
 -- what fits into the room is told
@@ -70,7 +70,7 @@ module _ (width : ℕ) (over t₀ : List ℕ) (c₀ : Coder) (code : List ℕ) (
       (whiteWindow over (suc x)) at
       good (sym (set-getD t 0 0)) cx (told-still c v code e wide told (f .within) (f .near) (f .small)) (sym white)
       (sym (zero-mul (2 ^ (7 - x % 8))))
-      (omega (arith, b (x + 3))) (omega arith) (omega arith) (sym (and-true good)))
+      (omega (arith, b (x + 3))) (omega arith) (omega arith) (sym (with-true good)))
 
   -- as the code has it: n of the pels up to y, from a window that is white, are one step
   pub read-run : (c : Coder) (w : Window) (v : View) (x y n s : ℕ) → RowRead width over t₀ c₀ code at₀ good₀ v₀ row t c

@@ -13,7 +13,7 @@ use Rattle.store.specs.Store.{stores}
 use Rattle.template.specs.Pels.{pelsTo, bandTo}
 use Rattle.limits.specs.Limits.{maxWidth}
 use Rattle.band.specs.Band.{qWriter, qPage, pageAt}
-use Rattle.row.specs.Rows.{stageOf, through}
+use Rattle.row.specs.WrittenRow.{stageOf, through}
 
 module _ (width : ℕ) where
   module _ (last band t₀ out₀ : List ℕ) where

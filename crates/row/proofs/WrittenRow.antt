@@ -14,7 +14,7 @@ use Rattle.coder.specs.Writing.{Stage, step, after}
 use Rattle.coder.proofs.Writing.{after-append}
 use Rattle.coder.specs.Page.{Page, contextOf, entryAt, size, sense, taught, placed, move}
 use Rattle.estimate.specs.Estimate.{rowOf, next, LawfulEntry, LawfulTable}
-use Rattle.estimate.proofs.Laws.{row-sized, next-lawful, set-lawful}
+use Rattle.estimate.proofs.LawfulEntries.{row-sized, next-lawful, set-lawful}
 use borrow.Author.Tests.{lt-ltb, le-ltb}
 use Rattle.interval.specs.Interval.{partOf}
 use Rattle.octets.specs.declared.Coder.{Coder}
@@ -34,8 +34,8 @@ use Rattle.template.specs.Window.{Slid}
 use Rattle.template.proofs.Sliding.{slid-next, slid-small, length-pels, pels-bits, pel-bit}
 use Rattle.row.specs.declared.Pel.{Pel}
 use Rattle.band.specs.Band.{qWriter, qPage}
-use Rattle.row.specs.Rows.{shiftedBy, Pelled, stillPel, decided, movedPel, bytesOf, pageOf, stageOf, through}
-use Rattle.row.specs.Rows.{begun, RowDone}
+use Rattle.row.specs.WrittenRow.{shiftedBy, Pelled, stillPel, decided, movedPel, bytesOf, pageOf, stageOf, through}
+use Rattle.row.specs.WrittenRow.{begun, RowDone}
 
 pub pelled-still : (c : Coder) (e : ℕ) → 4096 + rowOf e ≤ c .interval .width → Pelled c e true (stillPel c e)
 pelled-still c e h =

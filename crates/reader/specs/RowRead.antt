@@ -10,13 +10,13 @@ use Rattle.octets.specs.Fit.{Ready}
 use Rattle.octets.specs.Lift.{lift}
 use Rattle.template.specs.Pels.{pelsTo}
 use Rattle.template.specs.Packing.{Row}
-use Rattle.row.specs.Rows.{stageOf, through}
-use Rattle.reader.specs.declared.Reading.{Reading}
+use Rattle.row.specs.WrittenRow.{stageOf, through}
+use Rattle.reader.specs.declared.Progress.{Progress}
 use Rattle.reader.specs.declared.Line.{Line}
 use Rattle.sight.specs.Views.{sightOf}
 use Rattle.reader.specs.ReadRow.{matches, reads}
 
-module _ (width : ℕ) (above code : List ℕ) (s : Reading) where
+module _ (width : ℕ) (above code : List ℕ) (s : Progress) where
   abbrev under : Page
   under = record { table = s .table .entries; above = above; this = [] }
 

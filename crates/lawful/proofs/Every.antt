@@ -8,7 +8,7 @@ use mathlib.Core.Bool.{Bool, true, false, _&&_}
 use mathlib.Core.List.{List}
 use lib.ListN.{length, drop, getD, drop-of-length-le}
 use lib.Seq.{drop-cons}
-use Rattle.lawful.specs.Loops.{each}
+use Rattle.lawful.specs.Every.{each}
 
 -- a test of all of n elements that has come to the i-th; X is the answer sought
 pub record Left {A : Type 0} (right : A → List A → Bool) (X : Bool) (xs : List A) (n i : ℕ) : Type 0 where

@@ -12,12 +12,12 @@ use borrow.Author.Tests.{leb-true, le-leb, eq-eqb}
 use Rattle.coder.specs.Writing.{Stage, step, after}
 use Rattle.coder.specs.Page.{Page, contextOf, entryAt, sense, taught, placed, move}
 use Rattle.estimate.specs.Estimate.{indexOf, next}
-use Rattle.estimate.proofs.Laws.{next-lawful}
+use Rattle.estimate.proofs.LawfulEntries.{next-lawful}
 use Rattle.template.specs.Pels.{rowBytes, rowAt, bandTo, rowPadded, bandPadded}
 use Rattle.limits.specs.Limits.{lastBytes}
 use Rattle.band.specs.Band.{qScheme, qWriter, qPage, pageAt, white, lastRow, written}
 use Rattle.desk.proofs.OpenPages.{all-get}
-use Rattle.desk.specs.Lawful.{all, lawfulTable, isZero, noStray}
+use Rattle.desk.specs.Lawful.{all, lowIndexes, isZero, noStray}
 use Rattle.ground.proofs.Bools.{both, and-true}
 
 -- ---- the table
@@ -45,8 +45,8 @@ module _ (width : ℕ) where
       go true = refl
       go false = refl
 
-  taught-lawful : (m : Page) (p : ℕ) (b : Bool) → lawfulTable (m .table) ≡ true
-      → lawfulTable (taught qScheme width m p b) ≡ true
+  taught-lawful : (m : Page) (p : ℕ) (b : Bool) → lowIndexes (m .table) ≡ true
+      → lowIndexes (taught qScheme width m p b) ≡ true
   unfolding taught entryAt
   taught-lawful m p true h =
       all-set lawfulEntry (m .table) (contextOf qScheme width m) _ h
@@ -54,21 +54,21 @@ module _ (width : ℕ) where
       (all-get lawfulEntry (m .table) (contextOf qScheme width m) 0 h refl))
   taught-lawful m p false h = h
 
-  after-lawful : (ps : List ℕ) (s : Stage (qPage width) qWriter) → lawfulTable (s .model .table) ≡ true
-      → lawfulTable (after (qPage width) qWriter s ps .model .table) ≡ true
+  after-lawful : (ps : List ℕ) (s : Stage (qPage width) qWriter) → lowIndexes (s .model .table) ≡ true
+      → lowIndexes (after (qPage width) qWriter s ps .model .table) ≡ true
   unfolding after move
   after-lawful [] s h = h
   after-lawful (p ∷ ps) s h =
       after-lawful ps (step (qPage width) qWriter s p)
-      (subst (λ (t : List ℕ). lawfulTable t ≡ true)
+      (subst (λ (t : List ℕ). lowIndexes t ≡ true)
       (sym (placed-table (taught qScheme width (s .model) p _) (s .model .above) (s .model .this ++ (p ∷ []))))
       (taught-lawful (s .model) p _ h))
 
 -- the table after a band is lawful where the table before it was
-pub table-lawful : (width rows : ℕ) (table last band : List ℕ) → lawfulTable table ≡ true
-    → lawfulTable (written width rows table last band .table) ≡ true
+pub written-low : (width rows : ℕ) (table last band : List ℕ) → lowIndexes table ≡ true
+    → lowIndexes (written width rows table last band .table) ≡ true
 unfolding written
-table-lawful width rows table last band h = after-lawful width (bandTo width band rows)
+written-low width rows table last band h = after-lawful width (bandTo width band rows)
     (record { model = pageAt width table last; writer = qWriter .start }) h
 
 -- ---- the last row

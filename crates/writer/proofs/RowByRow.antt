@@ -30,9 +30,9 @@ use Rattle.row.specs.declared.Run.{Run}
 use Rattle.limits.specs.Limits.{maxWidth, maxRows, maxCode, lastBytes, maxBand}
 use Rattle.band.specs.Band.{qScheme, qWriter, qPage, pageAt, Written, written, lastRow, hasRoom}
 use Rattle.writer.specs.Wrote.{wroteAnswer, wroteOut}
-use Rattle.row.specs.Rows.{stageOf, through, RowDone}
-use Rattle.row.proofs.Rows.{lift-behind, page-within}
-use Rattle.writer.specs.Bands.{BandAt, opened}
+use Rattle.row.specs.WrittenRow.{stageOf, through, RowDone}
+use Rattle.row.proofs.WrittenRow.{lift-behind, page-within}
+use Rattle.writer.specs.RowByRow.{BandAt, opened}
 
 module _ (width : ℕ) where
   -- the bytes before stay before

@@ -18,7 +18,7 @@ use Rattle.store.specs.Store.{inFront, cleared}
 use Rattle.template.specs.Pels.{pelAt, pelsTo, bandTo, rowPadded, bandPadded, leftOf, rightOf, context}
 use Rattle.band.specs.Band.{written, lastRow, white, hasRoom}
 use Rattle.unique.proofs.Search.{firstOf, before, values, search}
-use Rattle.unique.proofs.Reading.{sameBytes, writtenSo, readBack, reading}
+use Rattle.unique.proofs.OneReader.{sameBytes, writtenSo, readBack, reading}
 use Rattle.desk.specs.declared.Key.{Key}
 use Rattle.desk.specs.Desk.{Desk}
 use Rattle.desk.specs.declared.Direction.{Direction}
