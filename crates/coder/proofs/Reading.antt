@@ -32,7 +32,7 @@ pub record IsCoder (W : Writer) (R : Reader) (Sized : ℕ → Type 0) : Type 1 w
   pub takes : (q : ℕ) (e : Bool) (w : W .State) (r : R .State) (c : List ℕ) → Sized q → Ready w → Ends (W .put q e w) c
       → Beside r w c → Beside (R .take q e r) (W .put q e w) c
 
-pub pel-same : (p s : ℕ) → p ≤ 1 → s ≤ 1 → pelOf s (eqb p s) ≡ p
+pel-same : (p s : ℕ) → p ≤ 1 → s ≤ 1 → pelOf s (eqb p s) ≡ p
 pel-same p s h k = go (same? p s)
   where
     go : (p ≡ s) ⊎ (p ≢ s) → cond (eqb p s) s (1 - s) ≡ p

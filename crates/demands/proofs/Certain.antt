@@ -17,7 +17,7 @@ use Rattle.parts.proofs.Lines.{same-parts}
 use Rattle.serial.specs.Run.{Step, stepOf, step}
 
 -- ---- by whatever right reader
-pub same-step : (R : Reader) (d : Desk) (c : Call) → step R d c ≡ step reading d c
+same-step : (R : Reader) (d : Desk) (c : Call) → step R d c ≡ step reading d c
 same-step R d c = ap (λ (f : Finder). stepOf (outcome f d c) (lent f d c)) (one-reader R)
 
 -- what a call's contract allows is the step of a run

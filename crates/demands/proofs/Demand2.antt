@@ -43,7 +43,7 @@ take-front (x ∷ xs) ys = ap (λ (l : List ℕ). x ∷ l) (take-front xs ys)
 length-front : (xs ys : List ℕ) → length xs ≤ length (xs ++ ys)
 length-front xs ys = omega (arith, length-append xs ys)
 
-pub front-again : (xs out : List ℕ) → front (length xs) (inFront xs out) ≡ xs
+front-again : (xs out : List ℕ) → front (length xs) (inFront xs out) ≡ xs
 unfolding front inFront
 front-again xs out = rw (le-leb (length xs) (length (xs ++ drop (length xs) out))
     (length-front xs (drop (length xs) out))) (take-front xs (drop

@@ -18,7 +18,7 @@ pub record AsRun (d : Desk) (es : List (Entry calling)) (d′ : Desk) : Type 0 w
   pub answers : es ≡ run reading d (calls calling es)
   pub ends : d′ ≡ after reading d (calls calling es)
 
-pub ran : (d : Desk) (es : List (Entry calling)) (d′ : Desk) → Ran d es d′ → AsRun d es d′
+ran : (d : Desk) (es : List (Entry calling)) (d′ : Desk) → Ran d es d′ → AsRun d es d′
 unfolding run after calls
 ran _ _ _ (begun d) = record { answers = refl; ends = refl }
 ran _ _ _ (more d c r lent es d′ p q) =

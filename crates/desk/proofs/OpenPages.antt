@@ -41,7 +41,7 @@ module _ {A : Type 0} (test law : A → Bool) (none : A) where
       go true t f r = let z : b ≡ j = cc in (omega arith, at 0 (omega arith) (both (law x) (all law xs) l .0, t))
       go false t f r = let z : suc b ≤ j = r f .0 in (omega arith, at (suc (j - suc b)) (omega arith) (r f .1))
 
-  pub at-found : (xs : List A) (i : ℕ) → all law xs ≡ true → findBy test xs 0 ≡ At i → (law (getD xs i none) ≡ true)
+  at-found : (xs : List A) (i : ℕ) → all law xs ≡ true → findBy test xs 0 ≡ At i → (law (getD xs i none) ≡ true)
       × (test (getD xs i none) ≡ true)
   unfolding Good
   at-found xs i l f = let e : i - 0 ≡ i = omega arith in rw e at (from xs 0 i l f .1)
@@ -54,7 +54,7 @@ all-get p [] i z h k = k
 all-get p (x ∷ s) zero z h k = both (p x) (all p s) h .0
 all-get p (x ∷ s) (suc i) z h k = all-get p s i z (both (p x) (all p s) h .1) k
 
-pub low-lawful : (t : List ℕ) → lowIndexes t ≡ true → LawfulTable t
+low-lawful : (t : List ℕ) → lowIndexes t ≡ true → LawfulTable t
 low-lawful t l cx = leb-true (indexOf (getD t cx 0)) 29 (all-get (λ e. leb (indexOf e) 29) t cx 0 l refl)
 
 -- ---- an open page

@@ -27,7 +27,7 @@ pub record Agree (w : Registers) (low n : ℕ) : Type 0 where
   pub sum : value (bytes w) * unit (w .until) + w .interval .low ≡ low
   pub reach : places 0 (bytes w) + (24 - w .until) ≡ n
 
-pub bytes-byte : (w : Registers) → bytes (byte w) ≡ w .settled ++ (carried (w .held) (w .interval .low) ∷ byte w .held
+bytes-byte : (w : Registers) → bytes (byte w) ≡ w .settled ++ (carried (w .held) (w .interval .low) ∷ byte w .held
     ∷ [])
 unfolding bytes byte
 bytes-byte w = append-assoc (w .settled) (carried (w .held) (w .interval .low) ∷ []) (byte w .held ∷ [])

@@ -28,11 +28,11 @@ unfoldable pub counted : List Decision → ℕ
 counted ds = run ds start .interval .count
 
 -- of any state w and any decisions that follow: w's settled bytes begin the code, and Ahead says how it goes on
-pub extension : (es : List Decision) (w : Registers) → Ready w → AllSized es → Going w (bytes (finish (run es w)))
+extension : (es : List Decision) (w : Registers) → Ready w → AllSized es → Going w (bytes (finish (run es w)))
     (run es w .interval .count)
 extension es w r z = going-run es w _ _ z r (going-end (run es w) (ready-run es w z r .rest))
 
-pub going-start : (ds : List Decision) → AllSized ds → Going start (bytes (finish (run ds start))) (counted ds)
+going-start : (ds : List Decision) → AllSized ds → Going start (bytes (finish (run ds start))) (counted ds)
 unfolding counted
 going-start ds z = extension ds start ready-start z
 
@@ -43,7 +43,7 @@ first b K X p q =
     let m : b < 1 = lt-of-mul-lt-mul-right K l in
     omega arith
 
-pub ahead-zero : (all : List ℕ) (n : ℕ) (i : Ahead start all n) → i .b ≡ 0
+ahead-zero : (all : List ℕ) (n : ℕ) (i : Ahead start all n) → i .b ≡ 0
 unfolding unit
 ahead-zero all n i = first (i .b) (2 ^ places (i .b) (i .bs)) (value (i .b ∷ i .bs)) (head-le (i .b) (i .bs)) (i .roof)
 
@@ -74,7 +74,7 @@ coded ds z =
     }
 
 -- ---- the value of the code is the final lower end, exactly
-pub counted-exact : (ds : List Decision) → AllSized ds → counted ds ≡ exact ds whole .count
+counted-exact : (ds : List Decision) → AllSized ds → counted ds ≡ exact ds whole .count
 unfolding counted
 counted-exact ds z = same-run ds start whole z ready-start same-start .count
 

@@ -40,7 +40,7 @@ agree-last w low m r g =
 abbrev pub Later : Registers → ℕ → ℕ → Type 0
 Later v low m = (z : ℕ) × Agree v (low * 2 ^ z) (m + z)
 
-pub agree-cover : (n r : ℕ) (w : Registers) (low m : ℕ) → Rest w → Agree w low m → Later (cover n r w) low m
+agree-cover : (n r : ℕ) (w : Registers) (low m : ℕ) → Rest w → Agree w low m → Later (cover n r w) low m
 unfolding cover
 agree-cover zero r w low m f g = (0, rw (add-zero, mul-one) g)
 agree-cover (suc n) r w low m f g =
@@ -110,7 +110,7 @@ tail-last r w f k =
     let p : Filled (pads (w .until) w) = filled (w .until) w (f .fit) refl in
     tail-made r (pads (w .until) w) (p .due) (made _ (p .fit) (p .due)) (tail-pads (w .until) r w refl (f .fit .few) k)
 
-pub cover-clear : (n r : ℕ) (w : Registers) → Rest w → Tail r w → r ≤ 7 * n → cover n r w .interval .low ≡ 0
+cover-clear : (n r : ℕ) (w : Registers) → Rest w → Tail r w → r ≤ 7 * n → cover n r w .interval .low ≡ 0
 unfolding cover
 cover-clear zero r w f k h = k .clear (omega arith)
 cover-clear (suc n) r w f k h =
@@ -135,7 +135,7 @@ scaled v low u z p n e h =
     ∙ ap (λ (x : ℕ). low * x) (sym (pow-add 2 z n) ∙ ap (λ (x : ℕ). 2 ^ x) (add-comm z n ∙ sym h) ∙ pow-add 2 p u)
     ∙ sym (mul-assoc low (2 ^ p) (2 ^ u)))
 
-pub value-finish : (w : Registers) (low n : ℕ) → Rest w → Agree w low n → value (bytes (finish w)) * 2 ^ n ≡ low * 2 ^
+value-finish : (w : Registers) (low n : ℕ) → Rest w → Agree w low n → value (bytes (finish w)) * 2 ^ n ≡ low * 2 ^
     places 0 (bytes (finish w))
 unfolding finish unit
 value-finish w low n r g =

@@ -52,7 +52,7 @@ going-double w all S r g =
           ahead-double w all (g .n) r (g .ahead);
     }
 
-pub going-shift : (w : Registers) (all : List ℕ) (S : ℕ) → Rest w → T (ltb (w .interval .width) 4096)
+going-shift : (w : Registers) (all : List ℕ) (S : ℕ) → Rest w → T (ltb (w .interval .width) 4096)
     → Going (due (double w)) all S → Going w all S
 going-shift w all S r t g = going-double w all S r
     (going-due (double w) all S (fit-double w r (ltb→lt (w .interval .width) 4096 t)) g)
@@ -65,12 +65,12 @@ going-shifts (suc j) w all S r =
     (shifts j (due (double w))) w
     (λ t g. going-shift w all S r t (going-shifts j (due (double w)) all S (rest-shift w r t) g)) (λ t g. g)
 
-pub going-upper : (q : ℕ) (w : Registers) (all : List ℕ) (S : ℕ) → q ≤ w .interval .width → Going (upper q w) all S
+going-upper : (q : ℕ) (w : Registers) (all : List ℕ) (S : ℕ) → q ≤ w .interval .width → Going (upper q w) all S
     → Going w all S
 going-upper q w all S h g =
     record { n = g .n; togo = g .togo; soon = g .soon; ahead = ahead-upper q w all (g .n) h (g .ahead) }
 
-pub going-lower : (q : ℕ) (w : Registers) (all : List ℕ) (S : ℕ) → q ≤ w .interval .width → Going (lower q w) all S
+going-lower : (q : ℕ) (w : Registers) (all : List ℕ) (S : ℕ) → q ≤ w .interval .width → Going (lower q w) all S
     → Going w all S
 going-lower q w all S h g =
     record { n = g .n; togo = g .togo; soon = g .soon; ahead = ahead-lower q w all (g .n) h (g .ahead) }

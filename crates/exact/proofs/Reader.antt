@@ -111,7 +111,7 @@ refuses q r w all n g i =
     (g .number)
 
 -- x is below the width (`lower (w .interval .width) w` is w)
-pub x-bound : (r : Sight) (w : Registers) (all : List ℕ) (n : ℕ) → Sees r w all → Ahead w all n
+x-bound : (r : Sight) (w : Registers) (all : List ℕ) (n : ℕ) → Sees r w all → Ahead w all n
     → r .x < w .interval .width * 2 ^ r .look
 x-bound r w all n g i = refuses (w .interval .width) r w all n g i
 

@@ -45,13 +45,13 @@ grown-jumped (suc n) i =
     (λ t. grown-jumped n (doubled i) ∙ jumped-more (doublings n (2 * i .width)) i) (λ t. jumped-none i)
 
 -- none where the width is 1000 hex or more
-pub doublings-none : (n a : ℕ) → 4096 ≤ a → doublings n a ≡ 0
+doublings-none : (n a : ℕ) → 4096 ≤ a → doublings n a ≡ 0
 unfolding doublings
 doublings-none zero a h = refl
 doublings-none (suc n) a h = if-ge a 4096 (suc (doublings n (2 * a))) 0 h
 
 -- there is a doubling exactly where the width is below 1000 hex
-pub doublings-some : (n a : ℕ) → ltb 0 (doublings (suc n) a) ≡ ltb a 4096
+doublings-some : (n a : ℕ) → ltb 0 (doublings (suc n) a) ≡ ltb a 4096
 unfolding doublings
 doublings-some n a =
     by-cond₂ (λ (k : ℕ) (b : Bool). ltb 0 k ≡ b) (ltb a 4096) (suc (doublings n (2 * a))) 0 true false

@@ -12,7 +12,7 @@ use Rattle.ground.proofs.Tests.{if-lt, if-ge}
 use Rattle.interval.specs.Interval.{doublings}
 
 -- the doublings of a width whose highest bit is bit k
-pub doublings-top : (n k a : ℕ) → k ≤ 12 → 12 ≤ n + k → 2 ^ k ≤ a → a < 2 ^ suc k → doublings n a ≡ 12 - k
+doublings-top : (n k a : ℕ) → k ≤ 12 → 12 ≤ n + k → 2 ^ k ≤ a → a < 2 ^ suc k → doublings n a ≡ 12 - k
 unfolding doublings
 doublings-top zero k a h e l u = omega arith
 doublings-top (suc n) k a h e l u =

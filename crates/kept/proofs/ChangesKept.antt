@@ -102,7 +102,7 @@ module _ (d : Desk) (s : Sound d) (k : Key) where
   unfolding shelves slotStore
   store-by d′ y p q = λ i. record { pageSlots = p i; classPlaces = q i }
 
-  pub find-given : given (find K (Option Table) k (shelves d .classPlaces)) ≡ given (placeOf (x .learned) (x .page))
+  find-given : given (find K (Option Table) k (shelves d .classPlaces)) ≡ given (placeOf (x .learned) (x .page))
   unfolding shelves
   find-given = ap given fits-k
 

@@ -97,7 +97,7 @@ pub record Roomed (n : ℕ) (p q : Bool) : Type 0 where
   pub page : p ≡ false
   pub place : q ≡ false
 
-pub roomed : (n : ℕ) (p q : Bool) → withRoom n p q ≡ 0 → Roomed n p q
+roomed : (n : ℕ) (p q : Bool) → withRoom n p q ≡ 0 → Roomed n p q
 roomed zero true q e = absurd (omega arith)
 roomed zero false true e = absurd (omega arith)
 roomed zero false false e = record { rest = refl; page = refl; place = refl }

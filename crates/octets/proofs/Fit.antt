@@ -179,7 +179,7 @@ fit-byte w f z =
       under = m .under;
     }
 
-pub rest-due : (w : Registers) → Fit w → Rest (due w)
+rest-due : (w : Registers) → Fit w → Rest (due w)
 unfolding due
 rest-due w f =
     by-cond Rest (eqb (w .until) 0) (byte w) w
@@ -209,7 +209,7 @@ due-count w = by-cond (λ (v : Registers). v .interval .count ≡ w .interval .c
 pub rest-shift : (w : Registers) → Rest w → T (ltb (w .interval .width) 4096) → Rest (due (double w))
 rest-shift w r t = rest-due (double w) (fit-double w r (ltb→lt (w .interval .width) 4096 t))
 
-pub ready-shifts : (n : ℕ) (w : Registers) → Rest w → 4096 ≤ w .interval .width * 2 ^ n → Ready (shifts n w)
+ready-shifts : (n : ℕ) (w : Registers) → Rest w → 4096 ≤ w .interval .width * 2 ^ n → Ready (shifts n w)
 unfolding shifts
 ready-shifts zero w r h = record { rest = r; wide = omega (arith, h) }
 ready-shifts (suc n) w r h =
@@ -233,7 +233,7 @@ abbrev pub AllSized : List Decision → Type 0
 AllSized [] = Unit {0}
 AllSized (d ∷ ds) = Sized d × AllSized ds
 
-pub rest-upper : (q : ℕ) (w : Registers) → Ready w → 1 ≤ q → q ≤ 0xAC1 → Rest (upper q w)
+rest-upper : (q : ℕ) (w : Registers) → Ready w → 1 ≤ q → q ≤ 0xAC1 → Rest (upper q w)
 rest-upper q w r h k =
     record {
       fit = record {
@@ -246,7 +246,7 @@ rest-upper q w r h k =
       wait = r .rest .wait;
     }
 
-pub rest-lower : (q : ℕ) (w : Registers) → Ready w → 1 ≤ q → q ≤ 0xAC1 → Rest (lower q w)
+rest-lower : (q : ℕ) (w : Registers) → Ready w → 1 ≤ q → q ≤ 0xAC1 → Rest (lower q w)
 rest-lower q w r h k =
     record {
       fit = record {

@@ -138,7 +138,7 @@ module _ (xs : List ℕ) (c a s h j : ℕ) (v : Byte) (o : Out h c (2 ^ j) v) wh
   made = refl
 
   -- fewer shifts than the byte's bits: no other byte
-  pub one-byte : j < v .bits
+  one-byte : j < v .bits
       → steps j (byte (there xs c a s h))
       ≡ record {
         interval = record { low = v .low; width = a * 2 ^ j; count = s + j };
@@ -161,7 +161,7 @@ module _ (xs : List ℕ) (c a s h j : ℕ) (v : Byte) (o : Out h c (2 ^ j) v) wh
   abbrev pub lowThen : ℕ
   lowThen = left h c % 2 ^ (24 - bits (carried h c)) * 2 ^ bits (carried h c)
 
-  pub low-then : (i : ℕ) → v .bits + i ≡ j → v .low ≡ lowThen * 2 ^ i
+  low-then : (i : ℕ) → v .bits + i ≡ j → v .low ≡ lowThen * 2 ^ i
   low-then i e =
       o .low ∙ ap (λ (n : ℕ). left h c % 2 ^ (24 - bits (carried h c)) * 2 ^ n)
       (sym (ap (λ (n : ℕ). n + i) (sym (o .bits′)) ∙ e))
@@ -179,14 +179,14 @@ module _ (xs : List ℕ) (c a s h j : ℕ) (v : Byte) (o : Out h c (2 ^ j) v) wh
   as-next = λ t. byte (there (xs ++ (sym (o .byte) t ∷ [])) lowThen (a * 2 ^ sym (o .bits′) t) (s + sym (o .bits′) t)
       (sym (o .held) t))
 
-  pub next-byte : (i : ℕ) → v .bits + i ≡ j → steps j (byte (there xs c a s h)) ≡ steps i (byte next)
+  next-byte : (i : ℕ) → v .bits + i ≡ j → steps j (byte (there xs c a s h)) ≡ steps i (byte next)
   next-byte i e =
       ap (λ (n : ℕ). steps n (byte (there xs c a s h))) (sym e ∙ ap (λ (n : ℕ). n + i) (o .bits′))
       ∙ steps-at (bits (carried h c)) i (byte (there xs c a s h)) (ap (λ (w : Registers). w .until) made) bits-some
       ∙ ap (steps i) as-next
 
 -- two bytes
-pub two-bytes : (c a s h j i : ℕ) (v u : Byte) (o : Out h c (2 ^ j) v) → v .bits + i ≡ j
+two-bytes : (c a s h j i : ℕ) (v u : Byte) (o : Out h c (2 ^ j) v) → v .bits + i ≡ j
     → Out (v .held) (lowThen [] c a s h j v o) (2 ^ i) u → i < u .bits
     → steps j (byte (there [] c a s h))
     ≡ record {

@@ -18,7 +18,7 @@ use Rattle.octets.specs.Loops.{steps}
 abbrev pub behind : List ℕ → Registers → Registers
 behind xs w = record { interval = w .interval; until = w .until; held = w .held; settled = xs ++ w .settled }
 
-pub behind-byte : (xs : List ℕ) (w : Registers) → byte (behind xs w) ≡ behind xs (byte w)
+behind-byte : (xs : List ℕ) (w : Registers) → byte (behind xs w) ≡ behind xs (byte w)
 unfolding byte
 behind-byte xs w =
     ap (λ (l : List ℕ). record {
@@ -34,13 +34,13 @@ behind-byte xs w =
           l;
     }) (append-assoc xs (w .settled) (carried (w .held) (w .interval .low) ∷ []))
 
-pub behind-due : (xs : List ℕ) (w : Registers) → due (behind xs w) ≡ behind xs (due w)
+behind-due : (xs : List ℕ) (w : Registers) → due (behind xs w) ≡ behind xs (due w)
 unfolding due
 behind-due xs w =
     by-cond₂ (λ (v u : Registers). v ≡ behind xs u) (eqb (w .until) 0) (byte (behind xs w)) (behind xs w) (byte w) w
     (λ t. behind-byte xs w) (λ t. refl)
 
-pub behind-shifts : (n : ℕ) (xs : List ℕ) (w : Registers) → shifts n (behind xs w) ≡ behind xs (shifts n w)
+behind-shifts : (n : ℕ) (xs : List ℕ) (w : Registers) → shifts n (behind xs w) ≡ behind xs (shifts n w)
 unfolding shifts
 behind-shifts zero xs w = refl
 behind-shifts (suc n) xs w =
@@ -128,7 +128,7 @@ steps-few (suc k) w h =
     ap (steps k) (due-not (double w) (omega arith)) ∙ steps-few k (double w) (omega arith) ∙ jump-double k w
 
 -- t or more: a jump to the byte, and on
-pub steps-byte : (j k : ℕ) (w : Registers) → w .until ≡ suc j → steps (suc j + k) w ≡ steps k (byte (jump (suc j) w))
+steps-byte : (j k : ℕ) (w : Registers) → w .until ≡ suc j → steps (suc j + k) w ≡ steps k (byte (jump (suc j) w))
 unfolding steps
 steps-byte zero k w e =
     ap (λ (n : ℕ). steps n w) (suc-add 0 k ∙ ap suc (zero-add k)) ∙ ap (steps k) (due-now (double w) (omega arith)

@@ -52,7 +52,7 @@ pub pel-upper : (q : ℕ) (w : Registers) → 4096 + q ≤ w .interval .width �
 pel-upper q w h = shifts-none 12 (upper q w) (omega arith)
 
 -- and m of one size, as long as the width stays 1000 hex or more, are one step
-pub run-expected : (m q : ℕ) (w : Registers) → 4096 + m * q ≤ w .interval .width → run (replicate m (decision q true))
+run-expected : (m q : ℕ) (w : Registers) → 4096 + m * q ≤ w .interval .width → run (replicate m (decision q true))
     w ≡ upper (m * q) w
 unfolding run
 run-expected zero q w h = with-part (sym (part-none (w .interval)) ∙ ap (λ (k : ℕ). upperPart k (w .interval))

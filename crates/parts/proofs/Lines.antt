@@ -50,12 +50,12 @@ module _ (ls : List PageLine) (ts rs : List (List ℕ)) (e : length ls ≡ lengt
       map-twice (λ (p : Page). (pageLineOf p, p .table .entries)) (λ (x : PageLine × List ℕ). x .0) (pagesOf ls ts rs)
       ∙ ap (map (λ (x : PageLine × List ℕ). x .0)) pairs-off ∙ left-beside paired (λ x. x .0) (λ x y. refl) ls ts e
 
-  pub tables-off : map (λ (p : Page). p .table .entries) (pagesOf ls ts rs) ≡ ts
+  tables-off : map (λ (p : Page). p .table .entries) (pagesOf ls ts rs) ≡ ts
   tables-off =
       map-twice (λ (p : Page). (pageLineOf p, p .table .entries)) (λ (x : PageLine × List ℕ). x .1) (pagesOf ls ts rs)
       ∙ ap (map (λ (x : PageLine × List ℕ). x .1)) pairs-off ∙ right-beside paired (λ x. x .1) (λ x y. refl) ls ts e
 
-  pub rows-off : map (λ (p : Page). p .last) (pagesOf ls ts rs) ≡ rs
+  rows-off : map (λ (p : Page). p .last) (pagesOf ls ts rs) ≡ rs
   rows-off = right-beside joined (λ p. p .last) (λ x y. refl) (beside paired ls ts) rs pairs-long
 
 module _ (ls : List PlaceLine) (ts : List (List ℕ)) (e : length ls ≡ length ts) where
@@ -65,7 +65,7 @@ module _ (ls : List PlaceLine) (ts : List (List ℕ)) (e : length ls ≡ length 
   pub place-lines-off : map placeLineOf (placesOf ls ts) ≡ ls
   place-lines-off = left-beside asPlace placeLineOf (λ x y. refl) ls ts e
 
-  pub learned-off : map (λ (q : Place). q .table .entries) (placesOf ls ts) ≡ ts
+  learned-off : map (λ (q : Place). q .table .entries) (placesOf ls ts) ≡ ts
   learned-off = right-beside asPlace (λ q. q .table .entries) (λ x y. refl) ls ts e
 
 -- ---- the parts have one length each

@@ -240,7 +240,7 @@ module _ (width : ℕ) (above t₀ : List ℕ) (c₀ : Coder) (code : List ℕ) 
           (f .slid))) in
           record { five = wa ∙ n .five; two = wt ∙ n .two }
 
-      pub read-again : (w′ : Window) (at′ : ℕ) (good′ : Bool) → w′ .above ≡ (2 * w .above + getD above (x + 3) 0) % 32
+      read-again : (w′ : Window) (at′ : ℕ) (good′ : Bool) → w′ .above ≡ (2 * w .above + getD above (x + 3) 0) % 32
           → w′ .this ≡ (2 * w .this + p) % 4
           → at′ ≡ at + u .settled → good′ ≡ (good && matches code at (bytesOf u))
           → RowRead row′ t′ (u .coder) w′ (told .view) at′ good′ (suc x)

@@ -170,7 +170,7 @@ module _ (d : Desk) (k : Key) (sized : Bool) where
       at i f = ap (λ (x : Found). orElse (pageBy d x) noPage .state) f ∙ states i
 
       module _ (t : Stands) (was : t ≡ standingTo lines way s) where
-        pub away-to : (n : ℕ) → t ≡ Refused n → Plain n × ((rs : List Row) → refusal (pagedTo way rs) ≡ n)
+        away-to : (n : ℕ) → t ≡ Refused n → Plain n × ((rs : List Row) → refusal (pagedTo way rs) ≡ n)
         unfolding standingTo
         away-to n e = go s refl (sym was ∙ e)
           where
@@ -189,7 +189,7 @@ module _ (d : Desk) (k : Key) (sized : Bool) where
                           ∙ here _ rs (ap not (ap (λ (x : ℕ). eqb x way) (at i (stood i f .found)) ∙ g)) ∙ q,
                     )
 
-        pub stood-to : (i : ℕ) → t ≡ On i → StoodTo way i
+        stood-to : (i : ℕ) → t ≡ On i → StoodTo way i
         unfolding standingTo
         stood-to i e = go s refl (sym was ∙ e)
           where

@@ -48,7 +48,7 @@ module _ (R : Reader) where
   unfolding shelves emptyDesk unusedPage freePlace frees
   empty-shelves = refl
 
-  pub done-number : (n : ℕ) → markOf n ≡ accepted → n ≡ 0
+  done-number : (n : ℕ) → markOf n ≡ accepted → n ≡ 0
   unfolding markOf
   done-number n e = go (eqb n 0) (eqb n 4 || eqb n 5) refl e
     where

@@ -34,7 +34,7 @@ unfolding supplied
 supplied-width r = Rattle.ground.proofs.Tests.by-cond (λ (v : Sight). v .width ≡ r .width) (eqb (r .look) 0) (more r) r
     (λ t. refl) (λ t. refl)
 
-pub seek-seeks : (n : ℕ) (r : Sight) → seek n r ≡ seeks (doublings n (r .width)) r
+seek-seeks : (n : ℕ) (r : Sight) → seek n r ≡ seeks (doublings n (r .width)) r
 unfolding seek doublings seeks
 seek-seeks zero r = refl
 seek-seeks (suc n) r =
@@ -129,7 +129,7 @@ pub taken-width : (q : ℕ) (b : Bool) (r : Sight) (i : Interval) → r .width �
 taken-width q true r i e = ap (λ (k : ℕ). k - q) e
 taken-width q false r i e = refl
 
-pub same-width : (q : ℕ) (b : Bool) (r : Sight) (w : Registers) → r .width ≡ w .interval .width
+same-width : (q : ℕ) (b : Bool) (r : Sight) (w : Registers) → r .width ≡ w .interval .width
     → seek 12 (taken q b r) .width ≡ pel (decision q b) w .interval .width
 same-width q b r w e =
     seek-width 12 (taken q b r) (partOf (decision q b) (w .interval)) (taken-width q b r (w .interval) e)

@@ -15,7 +15,7 @@ use Rattle.template.specs.Words.{Word}
 use Rattle.template.proofs.Words.{masked, zeros-more, zeros-white}
 use Rattle.template.specs.White.{White, Under, Clear, whiteWindow}
 
-pub white-none : (row : List ℕ) (x y : ℕ) → y ≤ x → White row x y
+white-none : (row : List ℕ) (x y : ℕ) → y ≤ x → White row x y
 white-none row x y h = record { pels = λ z k l. absurd (omega arith) }
 
 pub white-more : (row : List ℕ) (x y z : ℕ) → White row x y → White row y z → White row x z

@@ -13,7 +13,7 @@ use lib.Pow.{pow-pos, pow-mono, pow-add, shl-exact, shr-shr, high, low, field, m
 use Rattle.template.specs.Pels.{pelAt}
 use Rattle.template.specs.Words.{Word}
 
-pub word-none : (row : List ℕ) (k : ℕ) → Word row k 0 0
+word-none : (row : List ℕ) (k : ℕ) → Word row k 0 0
 word-none row k = record { small = pow-pos 0; pels = λ i h. absurd (omega arith) }
 
 -- the lowest bit of what remains of some bits
@@ -54,7 +54,7 @@ module _ (row : List ℕ) (k n w b : ℕ) (f : Word row k n w) (is : b ≡ getD 
       ∙ ap (λ (j : ℕ). b / 2 ^ j % 2) place
       ∙ ap (λ (m : ℕ). m / 2 ^ (7 - (8 * k + i) % 8) % 2) (is ∙ ap (λ (j : ℕ). getD row j 0) (sym byte))
 
-  pub word-next : Word row k (suc n) (w * 2 ^ 8 + b)
+  word-next : Word row k (suc n) (w * 2 ^ 8 + b)
   word-next = record { small = fits; pels = λ i h. go i h (decLt i (8 * n)) }
     where
       fits : w * 2 ^ 8 + b < 2 ^ (8 * suc n)
@@ -88,7 +88,7 @@ word-past row k n w f h p =
     none = omega arith
 
 -- ---- the number without its first o pels
-pub mask-is : (o : ℕ) → o ≤ 64 → 18446744073709551615 / 2 ^ o ≡ 2 ^ (64 - o) - 1
+mask-is : (o : ℕ) → o ≤ 64 → 18446744073709551615 / 2 ^ o ≡ 2 ^ (64 - o) - 1
 mask-is o h =
     let e : 64 ≡ 64 - o + o = omega arith in
     ap (λ (j : ℕ). (2 ^ j - 1) / 2 ^ o) e ∙ ap (λ (m : ℕ). m / 2 ^ o) (ones-split (64 - o) o) ∙ high (2 ^ (64 - o) - 1)

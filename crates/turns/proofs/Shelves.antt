@@ -22,7 +22,7 @@ placeOf (some t) p = some (some t)
 placeOf none (some p) = some none
 placeOf none none = none
 
-pub join-place : {T P : Type 0} (t : Option T) (p : Option P) → join (placeOf t p) ≡ t
+join-place : {T P : Type 0} (t : Option T) (p : Option P) → join (placeOf t p) ≡ t
 join-place (some t) p = refl
 join-place none (some p) = refl
 join-place none none = refl

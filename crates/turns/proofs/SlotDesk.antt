@@ -138,7 +138,7 @@ module _ (O : Office) where
     pub ends : Seen (slotAfter s cs) (after O d cs)
 
   -- the same answers for every run, and the desks stay alike
-  pub refines : (cs : List Call) (s : Slotted) (d : Desk O) → Seen s d → Refines s d cs
+  refines : (cs : List Call) (s : Slotted) (d : Desk O) → Seen s d → Refines s d cs
   unfolding slotRun run slotAfter after
   refines [] s d z = record { answers = refl; ends = z }
   refines (c ∷ cs) s d z = go (alike-step s d c z) (λ z′. refines cs (slotStep s c .desk) (step O d c .desk) z′)
@@ -150,7 +150,7 @@ module _ (O : Office) where
         ends = ih (a .desk) .ends;
       }
 
-  pub seen-empty : Seen emptyDesk (newDesk O)
+  seen-empty : Seen emptyDesk (newDesk O)
   seen-empty =
       record {
         cells = λ j. rw (frees-find K (Option Table) places j, frees-find K Page pages j);

@@ -37,19 +37,19 @@ module _ (K : Keys) (A : Type 0) where
   isFree none = true
   isFree (some n) = false
 
-  pub erase-first : (k : Key) (s : Slots K A) → erase K A k s ≡ atFirst (hasName k) none s
+  erase-first : (k : Key) (s : Slots K A) → erase K A k s ≡ atFirst (hasName k) none s
   unfolding erase atFirst
   erase-first k [] = refl
   erase-first k (none ∷ s) = ap (λ l. none ∷ l) (erase-first k s)
   erase-first k (some n ∷ s) = rw (erase-first k s)
 
-  pub replace-first : (k : Key) (v : A) (s : Slots K A) → replace K A k v s ≡ atFirst (hasName k) (named K A k v) s
+  replace-first : (k : Key) (v : A) (s : Slots K A) → replace K A k v s ≡ atFirst (hasName k) (named K A k v) s
   unfolding replace atFirst
   replace-first k v [] = refl
   replace-first k v (none ∷ s) = ap (λ l. none ∷ l) (replace-first k v s)
   replace-first k v (some n ∷ s) = rw (replace-first k v s)
 
-  pub insert-first : (k : Key) (v : A) (s : Slots K A) → insert K A k v s ≡ atFirst isFree (named K A k v) s
+  insert-first : (k : Key) (v : A) (s : Slots K A) → insert K A k v s ≡ atFirst isFree (named K A k v) s
   unfolding insert atFirst
   insert-first k v [] = refl
   insert-first k v (none ∷ s) = refl

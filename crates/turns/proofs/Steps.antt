@@ -56,7 +56,7 @@ module _ (O : Office) where
       go (accept o y) e = room (noPage O d (key c) y) (noPlace O d (key c) y) o y e refl refl
 
   -- the other way round: where the act is accepted and there is room, so is the call
-  pub step-accepts : (d : Desk O) (c : Call) (o : Output) (y : Cell Table Page) → act c (d .cells (key c)) ≡ accept o y
+  step-accepts : (d : Desk O) (c : Call) (o : Output) (y : Cell Table Page) → act c (d .cells (key c)) ≡ accept o y
       → noPage O d (key c) y ≡ false → noPlace O d (key c) y ≡ false
       → step O d c ≡ record { mark = accepted; output = o; desk = store O d (key c) y }
   unfolding step settle admit
@@ -118,7 +118,7 @@ module _ (O : Office) where
   unfolding noPlace
   place-held s k y h = rw h
 
-  pub place-below : (s : Desk O) (k : Key) (y : Cell Table Page) → s .placesTaken < places → noPlace O s k y ≡ false
+  place-below : (s : Desk O) (k : Key) (y : Cell Table Page) → s .placesTaken < places → noPlace O s k y ≡ false
   unfolding noPlace
   place-below s k y h = rw (lt-leb places (s .placesTaken) h) (and-false (not (hasPlace (s .cells k)) && hasPlace y))
 

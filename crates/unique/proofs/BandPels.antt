@@ -28,7 +28,7 @@ unfolding pelsTo
 row-pels row zero = tt
 row-pels row (suc n) = pels-append (pelsTo row n) (pelAt row n ∷ []) (row-pels row n) (pel-bit row n, tt)
 
-pub band-pels : (width : ℕ) (band : List ℕ) (n : ℕ) → AllPels (bandTo width band n)
+band-pels : (width : ℕ) (band : List ℕ) (n : ℕ) → AllPels (bandTo width band n)
 unfolding bandTo
 band-pels width band zero = tt
 band-pels width band (suc n) = pels-append (bandTo width band n) (pelsTo (rowAt width band n) width)

@@ -74,7 +74,7 @@ abbrev pub reading : Reader
 reading = record { finds = readBack; right = right }
 
 -- two bands of one size are never written as the same code from one table and last row, whatever the sizes
-pub one-band : (width rows : ℕ) (table last : List ℕ) → OneBand width rows table last
+one-band : (width rows : ℕ) (table last : List ℕ) → OneBand width rows table last
 one-band zero rows table last a b ia ib e = empty a b (ia .size ∙ mul-zero rows) (ib .size ∙ mul-zero rows)
   where
     empty : (a b : List ℕ) → length a ≡ 0 → length b ≡ 0 → a ≡ b

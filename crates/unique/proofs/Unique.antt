@@ -98,7 +98,7 @@ module _ (width : ℕ) (a b : List ℕ) (some : 1 ≤ width) (la : length a ≡ 
           ∙ ap₂ (λ (x y : ℕ). getD b x 0 / 2 ^ (7 - y) % 2) at off
       go (no l) = padding a pa i j hi hj (omega arith) ∙ sym (padding b pb i j hi hj (omega arith))
 
-  pub same-row : a ≡ b
+  same-row : a ≡ b
   same-row = ext-getD 0 a b (la ∙ sym lb) (λ i h. byte-same (getD a i 0) (getD b i 0) (oa i) (ob i)
       (λ j hj. same-bit i j (omega (arith, la)) hj))
 

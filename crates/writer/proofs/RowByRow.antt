@@ -50,7 +50,7 @@ module _ (width : ℕ) where
 
   -- ---- rows
   module _ (last band t₀ out₀ : List ℕ) where
-    pub band-start : (c : Coder) → lift c [] ≡ start → LawfulTable t₀ → (BandAt width last band t₀ out₀) last
+    band-start : (c : Coder) → lift c [] ≡ start → LawfulTable t₀ → (BandAt width last band t₀ out₀) last
         t₀ c out₀ 0 0
     unfolding bandTo after stores
     band-start c e l =
@@ -98,7 +98,7 @@ module _ (width : ℕ) where
           ∙ ap₂ (λ (s : Stage (qPage width) qWriter) (l : List ℕ). through width s (pelsTo l width)) (b .stage) (sym e)
           ∙ from-band
 
-      pub band-again : width ≤ maxWidth → (BandAt width last band t₀ out₀) row t′ c′ out′ at′ (suc y)
+      band-again : width ≤ maxWidth → (BandAt width last band t₀ out₀) row t′ c′ out′ at′ (suc y)
       band-again k =
           let n : length (b .settled ++ r .settled) ≡ length (b .settled) + length (r .settled) =
           length-append (b .settled) (r .settled) in
@@ -133,16 +133,16 @@ module _ (width rows : ℕ) (last band t₀ out₀ above t : List ℕ) (c : Code
   abbrev pub all : List ℕ
   all = b .settled ++ lasts
 
-  pub end-code : written width rows t₀ last band .code ≡ drop 1 all
+  end-code : written width rows t₀ last band .code ≡ drop 1 all
   unfolding written code
   end-code = ap (λ (s : Stage (qPage width) qWriter). code (s .writer)) (b .stage) ∙ ap (drop 1)
       (finish-behind c (b .settled) lasts e)
 
-  pub end-shifts : written width rows t₀ last band .shifts ≡ c .interval .count
+  end-shifts : written width rows t₀ last band .shifts ≡ c .interval .count
   unfolding written
   end-shifts = ap (λ (s : Stage (qPage width) qWriter). s .writer .interval .count) (b .stage)
 
-  pub end-table : written width rows t₀ last band .table ≡ t
+  end-table : written width rows t₀ last band .table ≡ t
   unfolding written
   end-table = ap (λ (s : Stage (qPage width) qWriter). s .model .table) (b .stage)
 
@@ -159,7 +159,7 @@ module _ (width rows : ℕ) (last band t₀ out₀ above t : List ℕ) (c : Code
     end-stored = stored ∙ ap₂ (λ (o : List ℕ) (k : ℕ). stores o k lasts) (b .stored)
         (b .place ∙ sym (zero-add (length (b .settled)))) ∙ stores-append out₀ 0 (b .settled) lasts
 
-    pub end-same : length out₁ ≡ length out₀
+    end-same : length out₁ ≡ length out₀
     end-same = ap length end-stored ∙ length-stores out₀ 0 all
 
     room-is : hasRoom (W .code) out₀ ≡ (leb (n₁ - 1) (length out₁) && leb (n₁ - 1) maxCode)
@@ -206,7 +206,7 @@ module _ (width rows : ℕ) (last band t₀ out₀ above t : List ℕ) (c : Code
 
 -- ---- the rows as parts of a band
 module _ (width : ℕ) (band : List ℕ) (bytes′ : ℕ) (is : bytes′ ≡ rowBytes width) where
-  pub row-first : take bytes′ band ≡ rowAt width band 0
+  row-first : take bytes′ band ≡ rowAt width band 0
   row-first = ap₂ (λ (n m : ℕ). take n (drop m band)) is (sym (zero-mul (rowBytes width)))
 
   part-at : (n m y : ℕ) → n ≡ bytes′ → m ≡ y * bytes′ → take n (drop m band) ≡ rowAt width band y
