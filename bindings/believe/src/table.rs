@@ -65,7 +65,7 @@ pub const SECTIONS: &[(&str, &[&str])] = &[
     ]),
     ("The three demands", &[
         "demands/Demand1", "demands/Demand2", "demands/Damaged",
-        "turns/Service", "turns/Serial", "turns/Base", "turns/Desk", "turns/Strike", "turns/Own", "turns/Order", "turns",
+        "turns/Service", "turns/Serial", "turns/Base", "turns/Strike", "turns/Own", "turns/Order", "turns",
         "serial/Run", "serial", "demands/AnyOrder", "demands",
     ]),
 ];

@@ -1,4 +1,4 @@
--- Where two bands of one size are never written as one code, one thing at most is right of a code. Assumes nothing.
+-- If no two bands of one size have one code, at most one answer is right for a code. Assumes nothing.
 use mathlib.Core.Path.{_≡_, refl, sym, ap, _∙_}
 use Prim.Native.Nat.{ℕ}
 use mathlib.Core.Option.{Option, some, none}

@@ -46,8 +46,8 @@ ac-11 = one-pel (0xAC ∷ 0x11 ∷ []) (apart 1 0x11 0x10 _ _ refl refl (λ e. o
     (apart 0 0xAC 0 _ _ refl refl (λ e. omega arith))
 
 three-zeros : Holds (damaged 1 1 (0x00 ∷ 0x00 ∷ 0x00 ∷ []))
-three-zeros = one-pel (0 ∷ 0 ∷ 0 ∷ []) (longer 3 2 _ _ refl refl (λ e. omega arith))
-    (longer 3 2 _ _ refl refl (λ e. omega arith))
+three-zeros =
+    one-pel (0 ∷ 0 ∷ 0 ∷ []) (longer 3 2 _ _ refl refl (λ e. omega arith)) (longer 3 2 _ _ refl refl (λ e. omega arith))
 
 none : Holds (damaged 1 1 [])
 none = one-pel [] (longer 0 2 _ _ refl refl (λ e. omega arith)) (longer 0 2 _ _ refl refl (λ e. omega arith))

@@ -78,11 +78,10 @@ pub record IsBand (width rows : ℕ) (band : List ℕ) : Type 0 where
   pub octets : (i : ℕ) → getD band i 0 ≤ 255
 
 -- What may be found in a code, from a table and a last row: a band that would have been written as exactly those bytes,
--- or nothing,
--- where no band of that width and height would have been.
+-- or nothing, where no band of that width and height would have been.
 abbrev pub Right : ℕ → ℕ → List ℕ → List ℕ → List ℕ → Option (List ℕ) → Type 0
-Right width rows table last code (some band) = IsBand width rows band
-    × (written width rows table last band .code ≡ code)
+Right width rows table last code (some band) =
+    IsBand width rows band × (written width rows table last band .code ≡ code)
 Right width rows table last code none = (band : List ℕ) → IsBand width rows band → written width rows table last
     band .code ≡ code → ⊥
 
@@ -93,5 +92,5 @@ Finder = ℕ → ℕ → List ℕ → List ℕ → List ℕ → Option (List ℕ
 -- a reader: whatever it is asked, what it finds is right
 pub record Reader : Type 0 where
   pub finds : Finder
-  pub right : (width rows : ℕ) (table last code : List ℕ) → Right width rows table last code
-      (finds width rows table last code)
+  pub right : (width rows : ℕ) (table last code : List ℕ)
+      → Right width rows table last code (finds width rows table last code)

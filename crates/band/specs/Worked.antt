@@ -22,13 +22,11 @@ abbrev pub then : ℕ → SoFar → List ℕ → SoFar
 then width page band =
     record {
       table = written width 1 (page .table) (page .last) band .table;
-      last = written width 1 (page .table)
-          (page .last) band .last;
+      last = written width 1 (page .table) (page .last) band .last;
     }
 
 -- A row of document 01's table: a band (width, rows, page so far, packed pels, code, S); an index and a sense, and what
--- they are after an
--- unexpected pel; a code that no band of that width and height, on a new page, is written as.
+-- they are after an unexpected pel; a code that no band of that width and height, on a new page, is written as.
 pub data Case : Type 0 where
   band : ℕ → ℕ → SoFar → List ℕ → List ℕ → ℕ → Case
   unexpected : ℕ → ℕ → ℕ → ℕ → Case
@@ -36,11 +34,15 @@ pub data Case : Type 0 where
 
 -- what a row claims
 abbrev pub Holds : Case → Type 0
-Holds (band width rows page pels c s) = (written width rows (page .table) (page .last) pels .code ≡ c)
+Holds (band width rows page pels c s) =
+    (written width rows (page .table) (page .last) pels .code ≡ c)
     × (written width rows (page .table) (page .last) pels .shifts ≡ s)
 Holds (unexpected i s i′ s′) = next false (entryOf i s) ≡ entryOf i′ s′
-Holds (damaged width rows c) = (pels : List ℕ) → length pels ≡ rows * rowBytes width → written width rows (new .table)
-    (new .last) pels .code ≡ c → ⊥
+Holds (damaged width rows c) =
+    (pels : List ℕ)
+    → length pels ≡ rows * rowBytes width
+    → written width rows (new .table) (new .last) pels .code ≡ c
+    → ⊥
 
 -- every row holds
 abbrev pub All : List Case → Type 0

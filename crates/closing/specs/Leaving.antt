@@ -11,5 +11,5 @@ use Rattle.parts.specs.Finding.{placeSought}
 
 -- the place that the key's page only reserves, by the lines of the book
 unfoldable pub reservedFound : Key → List PlaceLine → Found
-reservedFound k lines = cond (isFound (findBy (placeSought (Learned k)) lines 0)) Nothing
-    (findBy (placeSought (Used k)) lines 0)
+reservedFound k lines =
+    cond (isFound (findBy (placeSought (Learned k)) lines 0)) Nothing (findBy (placeSought (Used k)) lines 0)

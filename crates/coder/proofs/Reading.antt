@@ -14,8 +14,7 @@ use Rattle.coder.proofs.Writing.{AllPels}
 use Rattle.coder.specs.Reading.{Reader, pelOf, readPels}
 
 -- The laws that make a writer and a reader a coder. Ends w c: c is a code on which a run from w can end. Beside r w c:
--- the reader of c stands
--- where the writer does.
+-- the reader of c stands where the writer does.
 pub record IsCoder (W : Writer) (R : Reader) (Sized : ℕ → Type 0) : Type 1 where
   pub Ready : W .State → Type 0
   pub Ends : W .State → List ℕ → Type 0
@@ -53,8 +52,8 @@ module _ (A : Model) where
     ready-after : (ps : List ℕ) (s : Stage A W) → K .Ready (s .writer) → K .Ready (after A W s ps .writer)
     unfolding after
     ready-after [] s f = f
-    ready-after (p ∷ ps) s f = ready-after ps (step A W s p) (K .ready-put (A .size (s .model)) (expects s p)
-        (s .writer) (sized (s .model)) f)
+    ready-after (p ∷ ps) s f =
+        ready-after ps (step A W s p) (K .ready-put (A .size (s .model)) (expects s p) (s .writer) (sized (s .model)) f)
 
     ends-before : (ps : List ℕ) (s : Stage A W) (c : List ℕ) → K .Ready (s .writer) → K .Ends (after A W s ps .writer)
         c → K .Ends (s .writer) c
@@ -117,11 +116,11 @@ module _ (A : Model) where
     -- two bands of one length never have one code
     pub no-two-bands : (m : A .State) (ps qs : List ℕ) → AllPels ps → AllPels qs → length ps ≡ length qs
         → bandCode A W m ps ≡ bandCode A W m qs → ps ≡ qs
-    no-two-bands m ps qs a b l e = sym (read-band m ps a) ∙ ap₂ (λ (n : ℕ) (c : List ℕ). (readPels A) R n m
-        (R .start c)) l e ∙ read-band m qs b
+    no-two-bands m ps qs a b l e =
+        sym (read-band m ps a) ∙ ap₂ (λ (n : ℕ) (c : List ℕ). (readPels A) R n m (R .start c)) l e ∙ read-band m qs b
 
     -- where some band was written as c, the band that is read was
     pub written-read : (m : A .State) (n : ℕ) (c ps : List ℕ) → AllPels ps → length ps ≡ n → bandCode A W m ps ≡ c
         → (readPels A) R n m (R .start c) ≡ ps
-    written-read m n c ps a l e = ap₂ (λ (k : ℕ) (d : List ℕ). (readPels A) R k m (R .start d)) (sym l) (sym e)
-        ∙ read-band m ps a
+    written-read m n c ps a l e =
+        ap₂ (λ (k : ℕ) (d : List ℕ). (readPels A) R k m (R .start d)) (sym l) (sym e) ∙ read-band m ps a

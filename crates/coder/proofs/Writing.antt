@@ -1,4 +1,4 @@
--- A band's pels one after another: after some, the others. Assumes nothing.
+-- Pels written after other pels are written as both lists joined. Assumes nothing.
 use mathlib.Core.Path.{_≡_, refl}
 use Prim.Native.Nat.{ℕ, _≤_}
 use mathlib.Core.List.{List, [], _∷_, _++_}

@@ -16,8 +16,7 @@ pub record Writer : Type 1 where
   pub code : State → List ℕ
 
 -- A model: states that give the size and the pel expected, and that move on by the pel and by whether there was a
--- shift. Tables, contexts
--- and rows are one such model.
+-- shift. Tables, contexts and rows are one such model.
 pub record Model : Type 1 where
   pub State : Type 0
   pub size : State → ℕ

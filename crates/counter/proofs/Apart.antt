@@ -154,8 +154,8 @@ module _ (b o : ℕ) where
 
   -- an array at the offset d, lent for α under the name δ; the lender's part; and its last value
   abbrev pub ref : (R : RattleType) → ℕ → ℕ → GName → R .Denot → Fml
-  ref R α d δ y = MutRef (named 0) (α ∷ []) R .own (record { ptr = (b, o + d); name = δ; now = y })
-      (vptr b (o + d) ∷ [])
+  ref R α d δ y =
+      MutRef (named 0) (α ∷ []) R .own (record { ptr = (b, o + d); name = δ; now = y }) (vptr b (o + d) ∷ [])
 
   abbrev lent : (R : RattleType) → ℕ → ℕ → GName → Fml
   lent R α d δ = flent (α ∷ []) (Body (mem R) b (o + d) δ)
@@ -176,8 +176,8 @@ module _ (b o : ℕ) where
         (ref Learned α learnedAt (δ .1 .1) zs)
 
     abbrev pub Lents : ℕ → Names → SProp 𝓤
-    Lents α δ = three (lent Working α workingAt (δ .0)) (lent Rows α rowsAt (δ .1 .0))
-        (lent Learned α learnedAt (δ .1 .1))
+    Lents α δ =
+        three (lent Working α workingAt (δ .0)) (lent Rows α rowsAt (δ .1 .0)) (lent Learned α learnedAt (δ .1 .1))
 
     abbrev pub Lasts : Names → Bytes → Bytes → Bytes → SProp 𝓤
     Lasts δ xs ys zs = three (res Working (δ .0) xs) (res Rows (δ .1 .0) ys) (res Learned (δ .1 .1) zs)

@@ -1,6 +1,5 @@
 -- Demand 3 of the desk with demand 2's coder: any run of calls from an empty desk answers as if the closed pages had
--- been served whole,
--- one after another, in the order of their closing. Assumes nothing.
+-- been served whole, one after another, in the order of their closing. Assumes nothing.
 use mathlib.Core.List.{List}
 use Rattle.unique.proofs.OneReader.{reading}
 use Rattle.desk.specs.Calls.{Call}

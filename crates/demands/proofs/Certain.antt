@@ -1,6 +1,6 @@
 -- Nothing more can vary: for every desk and every call, any two outcomes that the call's contract allows are equal (the
--- answer, the desk
--- after it, each byte of the lent buffer), and they are the step of a run in demand 3. Assumes nothing.
+-- answer, the desk after it, each byte of the lent buffer), and they are the step of a run in demand 3. Assumes
+-- nothing.
 use mathlib.Core.Path.{_≡_, sym, ap, ap₂, _∙_}
 use mathlib.Core.List.{List}
 use Prim.Native.Nat.{ℕ}

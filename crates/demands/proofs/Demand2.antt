@@ -182,8 +182,7 @@ module _ (d : Desk) (ask : Ask) (pels out : List ℕ) (r : Outcome) (after : Lis
             record {
               width = same .width;
               table = ap (λ (v : Written). v .table) same-band;
-              last =
-                  ap (λ (v : Written). v .last) same-band;
+              last = ap (λ (v : Written). v .last) same-band;
             },
           );
         }

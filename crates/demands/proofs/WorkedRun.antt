@@ -1,6 +1,5 @@
 -- Three classes take turns, worked out by the definitions: what each call answers, what is left in the order in which
--- it is served,
--- that it then answers the same, and the learned tables at the end. Assumes nothing.
+-- it is served, that it then answers the same, and the learned tables at the end. Assumes nothing.
 use mathlib.Core.Path.{_≡_, refl}
 use mathlib.Core.List.{List, [], _∷_, _++_, map}
 use mathlib.Core.Option.{Option, some, none}
@@ -62,10 +61,9 @@ abbrev Turn : Type 0
 Turn = Call × ℕ × ℕ × ℕ × List ℕ
 
 -- the 24 calls. Class a writes P1 and P7 on its first page; b writes P2 between them, closes first, and its table is
--- dropped. c has no room
--- for its band and is abandoned; then it reads P1's code, after one that is damaged. Meanwhile a's second page begins
--- with the table that
--- its first one learned: a look shows that table still while the page has gone on. b's second page is never closed.
+-- dropped. c has no room for its band and is abandoned; then it reads P1's code, after one that is damaged. Meanwhile
+-- a's second page begins with the table that its first one learned: a look shows that table still while the page has
+-- gone on. b's second page is never closed.
 abbrev turns : List Turn
 turns =
     (openTo way.Write a, 0, 0, 0, [])

@@ -25,5 +25,6 @@ module _ (d : Desk) (ask : Ask) (code out : List ℕ) where
 
   -- no band of that size would have been written so, from the state of the open page
   abbrev pub Unwritten : Type 0
-  Unwritten = let p : Page = pageOf (stand d (ask .key)) in Right (p .width) (ask .rows) (p .table .entries)
-      (p .last) code none
+  Unwritten =
+      let p : Page = pageOf (stand d (ask .key)) in
+      Right (p .width) (ask .rows) (p .table .entries) (p .last) code none

@@ -22,8 +22,7 @@ seeing p s = record {
   page = p;
   learned = s .learned;
   pageFree = s .pageFree;
-  placeFree =
-      s .placeFree;
+  placeFree = s .placeFree;
 }
 
 module _ (finds : Finder) where

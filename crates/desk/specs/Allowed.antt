@@ -50,8 +50,9 @@ module _ (finds : Finder) (d : Desk) (c : Call) where
 
   -- the answer and the desk after it
   unfoldable pub outcome : Outcome
-  outcome = unless number d (done (effectOn .length) (effectOn .shifts) (changed d (keyOf c) (effectOn .page)
-      (effectOn .learned)))
+  outcome =
+      unless number d
+      (done (effectOn .length) (effectOn .shifts) (changed d (keyOf c) (effectOn .page) (effectOn .learned)))
 
   -- the lent buffer after it (empty where none is lent)
   unfoldable pub lent : List ℕ

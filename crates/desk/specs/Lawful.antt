@@ -51,7 +51,9 @@ unfoldable pub lawfulPage : Page → Bool
 lawfulPage p =
     cond (isUsed (p .state))
     (leb (p .state) 2
-    && (lawfulKey (p .key) && (within 1 (p .width) maxWidth && (lowIndexes (p .table .entries)
+    && (lawfulKey (p .key)
+    && (within 1 (p .width) maxWidth
+    && (lowIndexes (p .table .entries)
     && noStray (p .width) (p .last)))))
     (sameKey (p .key) noKey && (eqb (p .width) 0 && (isZero (p .table .entries) && isZero (p .last))))
 
@@ -60,8 +62,9 @@ lawfulPage p =
 unfoldable pub lawfulPlace : Place → Bool
 lawfulPlace q =
     cond (isUsed (q .state))
-    (leb (q .state) 2 && (lawfulKey (q .key) && cond (eqb (q .state) 2) (lowIndexes (q .table .entries))
-    (isZero (q .table .entries))))
+    (leb (q .state) 2
+    && (lawfulKey (q .key)
+    && cond (eqb (q .state) 2) (lowIndexes (q .table .entries)) (isZero (q .table .entries))))
     (sameKey (q .key) noKey && isZero (q .table .entries))
 
 -- both pages are open, under one key

@@ -66,5 +66,5 @@ module _ (finds : Finder) where
   tests (closes k) s = unlawful s ∷ unknown k ∷ row 2 (not (given (s .page))) ∷ []
   tests (abandons k) s = unlawful s ∷ unknown k ∷ row 2 (not (given (s .page))) ∷ []
   tests (drops k) s = unlawful s ∷ unknown k ∷ row 3 (given (s .page)) ∷ row 11 (not (given (s .learned))) ∷ []
-  tests (looks k out) s = unlawful s ∷ unknown k ∷ row 11 (not (given (s .learned)))
-      ∷ row 9 (ltb (length out) contexts) ∷ []
+  tests (looks k out) s =
+      unlawful s ∷ unknown k ∷ row 11 (not (given (s .learned))) ∷ row 9 (ltb (length out) contexts) ∷ []

@@ -29,8 +29,7 @@ sized-by : (q : ℕ) → T (leb 1 q && leb q 0xAC1) → Sized q
 sized-by q t =
     record {
       some = leb→le 1 q (and-left (leb 1 q) (leb q 0xAC1) t);
-      small =
-          leb→le q 0xAC1 (and-right (leb 1 q) (leb q 0xAC1) t);
+      small = leb→le q 0xAC1 (and-right (leb 1 q) (leb q 0xAC1) t);
     }
 
 pub row-sized : (e : ℕ) → Sized (rowOf e)

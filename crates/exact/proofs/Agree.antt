@@ -21,8 +21,7 @@ use Rattle.exact.specs.Value.{value, places, exact}
 use Rattle.exact.proofs.Value.{value-last, value-snoc, places-last, places-snoc}
 
 -- the bytes at their place, and what is in no byte, are the lower end; the bits in bytes and in no byte are n (8 of
--- them are the zero's
--- before the code)
+-- them are the zero's before the code)
 pub record Agree (w : Registers) (low n : ℕ) : Type 0 where
   pub sum : value (bytes w) * unit (w .until) + w .interval .low ≡ low
   pub reach : places 0 (bytes w) + (24 - w .until) ≡ n
@@ -121,8 +120,7 @@ same-part d w e m =
     (lowerPart (d .q) (w .interval)) (upperPart (d .q) e) (lowerPart (d .q) e)
     (λ t. record {
       agree = record { sum = omega (arith, m .agree .sum); reach = m .agree .reach };
-      wide =
-          ap (λ (k : ℕ). k - d .q) (m .wide);
+      wide = ap (λ (k : ℕ). k - d .q) (m .wide);
       count = m .count;
     })
     (λ t. record { agree = record { sum = m .agree .sum; reach = m .agree .reach }; wide = refl; count = m .count })

@@ -1,7 +1,6 @@
 -- How a code goes on from a state, whatever is coded next: the settled bytes stay, the code's value lies in the state's
--- interval, the bytes are
--- lawful, and none is missing or in vain.
--- All by going back from the end, one small step at a time; fractions are compared multiplied out. Assumes nothing.
+-- interval, the bytes are lawful, and none is missing or in vain. All by going back from the end, one small step at a
+-- time; fractions are compared multiplied out. Assumes nothing.
 use mathlib.Core.Path.{_≡_, refl, sym, ap, _∙_, subst}
 use Prim.Native.Nat.{ℕ, zero, suc, _+_, _-_, _*_, _^_, _≤_, _<_}
 use native.Mathlib.Nat.{mul-le-mul-right, pos-of-ne-zero}

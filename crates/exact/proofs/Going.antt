@@ -1,4 +1,5 @@
--- A whole run, going back from its end: the code goes on so from every state on the way. Assumes nothing.
+-- From the end of a written band back to its start: at every state on the way the rest of the code is as Ahead says.
+-- Assumes nothing.
 use mathlib.Core.Path.{_≡_, refl, sym, subst}
 use Prim.Native.Nat.{ℕ, zero, suc, _+_, _-_, _≤_}
 use native.Mathlib.Nat.{add-sub-cancel}
@@ -48,14 +49,13 @@ going-double w all S r g =
       n = g .n;
       togo = omega (arith, g .togo, r .wait, r .fit .few);
       soon = omega (arith, g .soon);
-      ahead =
-          ahead-double w all (g .n) r (g .ahead);
+      ahead = ahead-double w all (g .n) r (g .ahead);
     }
 
 going-shift : (w : Registers) (all : List ℕ) (S : ℕ) → Rest w → T (ltb (w .interval .width) 4096)
     → Going (due (double w)) all S → Going w all S
-going-shift w all S r t g = going-double w all S r
-    (going-due (double w) all S (fit-double w r (ltb→lt (w .interval .width) 4096 t)) g)
+going-shift w all S r t g =
+    going-double w all S r (going-due (double w) all S (fit-double w r (ltb→lt (w .interval .width) 4096 t)) g)
 
 pub going-shifts : (j : ℕ) (w : Registers) (all : List ℕ) (S : ℕ) → Rest w → Going (shifts j w) all S → Going w all S
 unfolding shifts
@@ -97,6 +97,5 @@ going-end w r = record {
   n = 24 - w .until;
   togo = refl;
   soon = omega arith;
-  ahead = ahead-cover 4 (24 - w .until) w r
-      (tail-start w r) (omega arith);
+  ahead = ahead-cover 4 (24 - w .until) w r (tail-start w r) (omega arith);
 }

@@ -138,8 +138,7 @@ sees-lower q r w all g = record {
   joined = g .joined;
   wide = refl;
   place = g .place;
-  number =
-      g .number;
+  number = g .number;
 }
 
 -- one byte more is read: there is one, since the bytes cover the shift that comes
@@ -148,8 +147,7 @@ sees-more : (r : Sight) (w : Registers) (all : List ℕ) (d : ℕ) (us : List �
       width = r .width;
       x = r .x * 2 ^ bits (r .last) + d;
       look = r .look + bits (r .last);
-      last =
-          d;
+      last = d;
       unread = us;
     }) w all
 sees-more r w all d us e g =
@@ -254,8 +252,8 @@ module _ (w : Registers) (r : Sight) (all : List ℕ) (n : ℕ) (z : w .until �
 
 sees-byte : (w : Registers) (r : Sight) (all : List ℕ) (n : ℕ) → Fit w → w .until ≡ 0 → Ahead (byte w) all n
     → Sees r w all → Sees r (byte w) all
-sees-byte w r all n f z i g = past w r all n z (made w f z) i (g .b) (g .ys) (g .joined) (g .wide) (g .place)
-    (g .number)
+sees-byte w r all n f z i g =
+    past w r all n z (made w f z) i (g .b) (g .ys) (g .joined) (g .wide) (g .place) (g .number)
 
 sees-due : (w : Registers) (r : Sight) (all : List ℕ) (S : ℕ) → Fit w → Going (due w) all S → Sees r w all
     → Sees r (due w) all

@@ -23,8 +23,7 @@ opened code =
     record {
       width = 0x1000;
       x = getD code 0 0 * 2 ^ bits (getD code 0 0) + getD code 1 0;
-      look = bits (getD code 0 0)
-          - 4;
+      look = bits (getD code 0 0) - 4;
       last = getD code 1 0;
       unread = drop 2 code;
     }
@@ -35,8 +34,7 @@ abbrev pub more : Sight → Sight
 more r = record {
   width = r .width;
   x = (r .x * 2 ^ bits (r .last) + getD (r .unread) 0 0) % 2 ^ 32;
-  look =
-      r .look + bits (r .last);
+  look = r .look + bits (r .last);
   last = getD (r .unread) 0 0;
   unread = drop 1 (r .unread);
 }
@@ -61,8 +59,7 @@ above q r = record {
   x = r .x - q * 2 ^ r .look;
   look = r .look;
   last = r .last;
-  unread =
-      r .unread;
+  unread = r .unread;
 }
 
 abbrev pub under : ℕ → Sight → Sight

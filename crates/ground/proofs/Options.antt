@@ -1,4 +1,4 @@
--- What may be there or not: nothing where there is nothing, and under a function. Assumes nothing.
+-- What follows from something being there, or not. Assumes nothing.
 use mathlib.Core.Path.{_≡_, refl}
 use mathlib.Core.Bool.{false}
 use mathlib.Core.Option.{Option, some, none}

@@ -24,8 +24,8 @@ from : (test : ℕ → ℕ → Bool) (d : ℕ) (xs : List ℕ) (i : ℕ) → T (
     → T (test (i + k) (getD xs k d))
 from test d [] i t k h = absurd (omega arith)
 from test d (x ∷ xs) i t zero h = rw add-zero (and-left (test i x) (every test (suc i) xs) t)
-from test d (x ∷ xs) i t (suc k) h = rw (add-suc, ← suc-add)
-    (from test d xs (suc i) (and-right (test i x) (every test (suc i) xs) t) k (omega arith))
+from test d (x ∷ xs) i t (suc k) h =
+    rw (add-suc, ← suc-add) (from test d xs (suc i) (and-right (test i x) (every test (suc i) xs) t) k (omega arith))
 
 -- (d is what getD gives past the end)
 pub at-each : (test : ℕ → ℕ → Bool) (d : ℕ) (xs : List ℕ) → T (every test 0 xs) → (k : ℕ) → k < length xs

@@ -20,16 +20,14 @@ pub jumped-none : (i : Interval) → i ≡ jumped 0 i
 jumped-none i = λ j. record {
   low = sym (mul-one (i .low)) j;
   width = sym (mul-one (i .width)) j;
-  count =
-      sym (add-zero (i .count)) j;
+  count = sym (add-zero (i .count)) j;
 }
 
 pub jumped-more : (k : ℕ) (i : Interval) → jumped k (doubled i) ≡ jumped (suc k) i
 jumped-more k i = λ j. record {
   low = double-first (i .low) k j;
   width = double-first (i .width) k j;
-  count =
-      up (i .count) j;
+  count = up (i .count) j;
 }
   where
     up : (s : ℕ) → suc s + k ≡ s + suc k

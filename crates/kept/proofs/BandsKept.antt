@@ -26,8 +26,8 @@ all-set : {A : Type 0} (p : A → Bool) (s : List A) (i : ℕ) (a : A) → all p
 unfolding all
 all-set p [] i a h k = h
 all-set p (x ∷ s) zero a h k = and-true (p a) (all p s) k (both (p x) (all p s) h .1)
-all-set p (x ∷ s) (suc i) a h k = and-true (p x) (all p (set s i a)) (both (p x) (all p s) h .0)
-    (all-set p s i a (both (p x) (all p s) h .1) k)
+all-set p (x ∷ s) (suc i) a h k =
+    and-true (p x) (all p (set s i a)) (both (p x) (all p s) h .0) (all-set p s i a (both (p x) (all p s) h .1) k)
 
 abbrev lawfulEntry : ℕ → Bool
 lawfulEntry e = leb (indexOf e) 29
@@ -68,8 +68,8 @@ module _ (width : ℕ) where
 pub written-low : (width rows : ℕ) (table last band : List ℕ) → lowIndexes table ≡ true
     → lowIndexes (written width rows table last band .table) ≡ true
 unfolding written
-written-low width rows table last band h = after-lawful width (bandTo width band rows)
-    (record { model = pageAt width table last; writer = qWriter .start }) h
+written-low width rows table last band h =
+    after-lawful width (bandTo width band rows) (record { model = pageAt width table last; writer = qWriter .start }) h
 
 -- ---- the last row
 zero-all : (n : ℕ) → isZero (replicate n 0) ≡ true

@@ -62,8 +62,8 @@ module _ (d : Desk) (s : Sound d) (k : Key) where
   pub place-freed : given (placeOf (x .learned) (x .page)) ≡ true
       → map viewPlace (atFirst (isPlaceOf k) freePlace (d .places)) ≡ update K (Option Table) k none Places
   unfolding freePlace
-  place-freed g = places-first k freePlace (d .places) ∙ sym (update-free K (Option Table) k Places
-      (ap given fits-k ∙ g))
+  place-freed g =
+      places-first k freePlace (d .places) ∙ sym (update-free K (Option Table) k Places (ap given fits-k ∙ g))
 
   pub place-changed : (q : Place) (t : Option Table) → given (placeOf (x .learned) (x .page)) ≡ true
       → viewPlace q ≡ named K (Option Table) k t → map viewPlace (atFirst (isPlaceOf k) q (d .places)) ≡ update K

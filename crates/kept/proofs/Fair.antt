@@ -159,8 +159,7 @@ new-fair ask t h w l = (
         key = h;
         width = w;
         table = l;
-        clear = white-clear
-            (ask .width);
+        clear = white-clear (ask .width);
       }),
 )
 

@@ -131,8 +131,7 @@ module _ (R : Reader) where
               known = lawful-key k (passed 1 ts refl e);
               clean = there (s .page) (passed 2 ts refl e);
               page = tt;
-              table = o .page (pageOf s)
-                  (held (s .page) noPage (there (s .page) (passed 2 ts refl e))) .0 .table;
+              table = o .page (pageOf s) (held (s .page) noPage (there (s .page) (passed 2 ts refl e))) .0 .table;
             };
       }
   law (abandons k) s =
@@ -148,8 +147,7 @@ module _ (R : Reader) where
             record {
               known = lawful-key k (passed 1 ts refl e);
               clean = there (s .page) (passed 2 ts refl e);
-              page =
-                  tt;
+              page = tt;
               table = tt;
             };
       }
@@ -183,8 +181,7 @@ module _ (R : Reader) where
             record {
               known = lawful-key k (passed 1 (tests (R .finds) (looks k out) s) refl e);
               clean = tt;
-              page =
-                  tt;
+              page = tt;
               table = tt;
             };
       }

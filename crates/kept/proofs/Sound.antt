@@ -1,6 +1,5 @@
 -- A lawful desk, taken apart: lawful pages and places, and slots that fit (different keys, each page with its place,
--- each reserved
--- place with its page). Assumes nothing.
+-- each reserved place with its page). Assumes nothing.
 use mathlib.Core.Path.{_≡_, refl, sym, ap, _∙_, subst}
 use mathlib.Core.Bool.{Bool, true, false, cond, not, _&&_, _||_}
 use mathlib.Core.List.{List, [], _∷_, map}

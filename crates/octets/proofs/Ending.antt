@@ -50,8 +50,7 @@ shifted : (n : ℕ) (w : Registers) → pads n w
       interval = record {
         low = w .interval .low * 2 ^ n;
         width = w .interval .width;
-        count =
-            w .interval .count;
+        count = w .interval .count;
       };
       until = w .until - n;
       held = w .held;
@@ -63,8 +62,7 @@ shifted zero w =
       interval = record {
         low = sym (mul-one (w .interval .low)) i;
         width = w .interval .width;
-        count =
-            w .interval .count;
+        count = w .interval .count;
       };
       until = sym (sub-zero (w .until)) i;
       held = w .held;
@@ -76,8 +74,7 @@ shifted (suc n) w =
       interval = record {
         low = double-first (w .interval .low) n i;
         width = w .interval .width;
-        count =
-            w .interval .count;
+        count = w .interval .count;
       };
       until = down (w .until) i;
       held = w .held;
@@ -91,8 +88,7 @@ shifted (suc n) w =
 abbrev pub stays : Interval → ℕ → ℕ → ℕ → Registers
 stays i low until held = record {
   interval = record { low = low; width = i .width; count = i .count };
-  until =
-      until;
+  until = until;
   held = held;
   settled = [];
 }
@@ -147,8 +143,7 @@ module _ (i : Interval) (low until held : ℕ) (v : Byte) (o : Out held (low * 2
       ap byte (shifted until (stays i low until held))
       ∙ (λ t. record {
         interval = record { low = lows t; width = i .width; count = i .count };
-        until =
-            sym (o .bits′) t;
+        until = sym (o .bits′) t;
         held = sym (o .held) t;
         settled = sym (o .byte) t ∷ [];
       })
@@ -165,8 +160,7 @@ module _ (i : Interval) (low until held : ℕ) (v : Byte) (o : Out held (low * 2
           few = k .fit .few;
           octet = k .fit .octet;
           some = k .fit .some;
-          narrow =
-              k .fit .narrow;
+          narrow = k .fit .narrow;
           under = k .fit .under;
         };
         wait = k .wait;

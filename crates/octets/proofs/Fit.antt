@@ -173,8 +173,7 @@ fit-byte w f z =
     record {
       few = omega (arith, bits-few (carried (w .held) (w .interval .low)));
       octet = m .octet;
-      some =
-          f .some;
+      some = f .some;
       narrow = f .narrow;
       under = m .under;
     }
@@ -284,8 +283,7 @@ ready-start =
           octet = omega arith;
           some = omega arith;
           narrow = omega arith;
-          under =
-              omega arith;
+          under = omega arith;
         };
         wait = omega arith;
       };

@@ -25,8 +25,7 @@ small-by b x m k p h n o l s e =
       octet = omega arith;
       seven = s;
       eight = e;
-      short =
-          omega (arith, mod-lt x (mul-pos n h), mul-le-mul-right p o);
+      short = omega (arith, mod-lt x (mul-pos n h), mul-le-mul-right p o);
     }
 
 -- dividing at a scale
@@ -106,8 +105,7 @@ pub small-to-ff : (x p : ℕ) → 1 ≤ p
       settled = 255;
       held = x % (16777216 * p) / (131072 * p);
       low = x % (16777216 * p) % (131072 * p);
-      bits =
-          7;
+      bits = 7;
     })
 small-to-ff x p h = small-by 255 _ 131072 7 p h (omega arith) (omega arith) (omega (arith, rest-short x p h))
     (omega arith) (omega arith)
@@ -115,8 +113,8 @@ small-to-ff x p h = small-by 255 _ 131072 7 p h (omega arith) (omega arith) (ome
 pub small-plain : (b x p : ℕ) → 1 ≤ p
     → Small p
     (record { settled = b; held = x % (16777216 * p) / (65536 * p); low = x % (16777216 * p) % (65536 * p); bits = 8 })
-small-plain b x p h = small-by b _ 65536 8 p h (omega arith) (omega arith) (omega (arith, rest-short x p h))
-    (omega arith) (omega arith)
+small-plain b x p h =
+    small-by b _ 65536 8 p h (omega arith) (omega arith) (omega (arith, rest-short x p h)) (omega arith) (omega arith)
 
 -- what is left of the lower end is small enough for the next byte
 pub short-next : (x j i k : ℕ) → k + i ≡ j → k ≤ 8 → x < 131072 * 2 ^ j → x < 33554432 * 2 ^ i
@@ -129,8 +127,7 @@ module _ (xs : List ℕ) (c a s h j : ℕ) (v : Byte) (o : Out h c (2 ^ j) v) wh
   made : byte (there xs c a s h)
       ≡ record {
         interval = record { low = left h c % 2 ^ (24 - bits (carried h c)); width = a; count = s };
-        until =
-            bits (carried h c);
+        until = bits (carried h c);
         held = left h c / 2 ^ (24 - bits (carried h c));
         settled = xs ++ (carried h c ∷ []);
       }
@@ -143,16 +140,14 @@ module _ (xs : List ℕ) (c a s h j : ℕ) (v : Byte) (o : Out h c (2 ^ j) v) wh
       ≡ record {
         interval = record { low = v .low; width = a * 2 ^ j; count = s + j };
         until = v .bits - j;
-        held =
-            v .held;
+        held = v .held;
         settled = xs ++ (v .settled ∷ []);
       }
   one-byte l =
       steps-few j (byte (there xs c a s h)) (rw made (omega (arith, o .bits′))) ∙ ap (jump j) made
       ∙ (λ i. record {
         interval = record { low = sym (o .low) i; width = a * 2 ^ j; count = s + j };
-        until =
-            sym (o .bits′) i - j;
+        until = sym (o .bits′) i - j;
         held = sym (o .held) i;
         settled = xs ++ (sym (o .byte) i ∷ []);
       })
@@ -192,8 +187,7 @@ two-bytes : (c a s h j i : ℕ) (v u : Byte) (o : Out h c (2 ^ j) v) → v .bits
     ≡ record {
       interval = record { low = u .low; width = a * 2 ^ j; count = s + j };
       until = u .bits - i;
-      held =
-          u .held;
+      held = u .held;
       settled = v .settled ∷ u .settled ∷ [];
     }
 two-bytes c a s h j i v u o e q l =
@@ -202,8 +196,7 @@ two-bytes c a s h j i v u o e q l =
     ∙ (λ t. record {
       interval = record { low = u .low; width = width t; count = count t };
       until = u .bits - i;
-      held =
-          u .held;
+      held = u .held;
       settled = v .settled ∷ u .settled ∷ [];
     })
   where
@@ -223,8 +216,7 @@ module _ (next : Interval) (h j : ℕ) (v : Byte) (o : (c : ℕ) → next .low �
   pub settle-one : j < v .bits → steps j (byte (there [] c a s h))
       ≡ record {
         interval = record { low = v .low; width = next .width; count = next .count };
-        until =
-            v .bits - j;
+        until = v .bits - j;
         held = v .held;
         settled = v .settled ∷ [];
       }
@@ -232,8 +224,7 @@ module _ (next : Interval) (h j : ℕ) (v : Byte) (o : (c : ℕ) → next .low �
       one-byte [] c a s h j v (o c low) l
       ∙ (λ t. record {
         interval = record { low = v .low; width = sym width t; count = sym count t };
-        until =
-            v .bits - j;
+        until = v .bits - j;
         held = v .held;
         settled = v .settled ∷ [];
       })
@@ -242,8 +233,7 @@ module _ (next : Interval) (h j : ℕ) (v : Byte) (o : (c : ℕ) → next .low �
       → i < u .bits → steps j (byte (there [] c a s h))
       ≡ record {
         interval = record { low = u .low; width = next .width; count = next .count };
-        until =
-            u .bits - i;
+        until = u .bits - i;
         held = u .held;
         settled = v .settled ∷ u .settled ∷ [];
       }
@@ -252,8 +242,7 @@ module _ (next : Interval) (h j : ℕ) (v : Byte) (o : (c : ℕ) → next .low �
       (low-then [] c a s h j v (o c low) i e)) l
       ∙ (λ t. record {
         interval = record { low = u .low; width = sym width t; count = sym count t };
-        until =
-            u .bits - i;
+        until = u .bits - i;
         held = u .held;
         settled = v .settled ∷ u .settled ∷ [];
       })

@@ -25,13 +25,11 @@ behind-byte xs w =
       interval = record {
         low = byte w .interval .low;
         width = w .interval .width;
-        count =
-            w .interval .count;
+        count = w .interval .count;
       };
       until = byte w .until;
       held = byte w .held;
-      settled =
-          l;
+      settled = l;
     }) (append-assoc xs (w .settled) (carried (w .held) (w .interval .low) ∷ []))
 
 behind-due : (xs : List ℕ) (w : Registers) → due (behind xs w) ≡ behind xs (due w)
@@ -92,8 +90,7 @@ jump-zero : (w : Registers) → jump 0 w ≡ w
 jump-zero w = λ i. record {
   interval = sym (jumped-none (w .interval)) i;
   until = sub-zero (w .until) i;
-  held =
-      w .held;
+  held = w .held;
   settled = w .settled;
 }
 
@@ -101,8 +98,7 @@ jump-double : (k : ℕ) (w : Registers) → jump k (double w) ≡ jump (suc k) w
 jump-double k w = λ i. record {
   interval = jumped-more k (w .interval) i;
   until = down (w .until) i;
-  held =
-      w .held;
+  held = w .held;
   settled = w .settled;
 }
   where

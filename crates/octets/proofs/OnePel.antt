@@ -37,8 +37,7 @@ ready-bare c xs ys r =
           octet = f .octet;
           some = f .some;
           narrow = f .narrow;
-          under =
-              f .under;
+          under = f .under;
         };
         wait = r .rest .wait;
       };
@@ -78,8 +77,8 @@ module _ (r : Coder) (q : ℕ) (e : Bool) (ready : Ready (lift r [])) (some : 1 
     pub short : next .low < 33554432 * 2 ^ j
 
   halves : (x n j m : ℕ) → n + j ≡ m → x * 2 ^ m ≡ x * 2 ^ n * 2 ^ j
-  halves x n j m e = ap (λ (y : ℕ). x * y) (ap (λ (y : ℕ). 2 ^ y) (sym e) ∙ pow-add 2 n j)
-      ∙ sym (mul-assoc x (2 ^ n) (2 ^ j))
+  halves x n j m e =
+      ap (λ (y : ℕ). x * y) (ap (λ (y : ℕ). 2 ^ y) (sym e) ∙ pow-add 2 n j) ∙ sym (mul-assoc x (2 ^ n) (2 ^ j))
 
   before : P .low * 2 ^ r .until < 33554432
   before =

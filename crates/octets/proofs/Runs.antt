@@ -34,12 +34,12 @@ part-more m n s i e = λ t. record { low = low (i .low) t; width = wide (i .widt
     wide x = omega arith
 
 pub still-none : (c : Coder) → stillBy 0 c ≡ c
-still-none c = ap (λ (i : Interval). record { interval = i; until = c .until; held = c .held })
-    (part-none (c .interval))
+still-none c =
+    ap (λ (i : Interval). record { interval = i; until = c .until; held = c .held }) (part-none (c .interval))
 
 pub still-more : (m n s : ℕ) (c : Coder) → m + n ≡ s → stillBy n (stillBy m c) ≡ stillBy s c
-still-more m n s c e = ap (λ (i : Interval). record { interval = i; until = c .until; held = c .held })
-    (part-more m n s (c .interval) e)
+still-more m n s c e =
+    ap (λ (i : Interval). record { interval = i; until = c .until; held = c .held }) (part-more m n s (c .interval) e)
 
 -- ---- a width of 1000 hex or more is not shifted
 shifts-none : (n : ℕ) (w : Registers) → 4096 ≤ w .interval .width → shifts n w ≡ w

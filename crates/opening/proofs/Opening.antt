@@ -126,7 +126,7 @@ module _ (p : Parts) (ask : Opening) (n : ℕ) (first : n ≡ early (lawful (des
             numbered b e = left ∙ rw (t, e)
 
             go : (b : Bool) → isFound (freePlaceFound d) ≡ b → Allowed d (opens ask) r []
-            go true e = accepts-so d (opens ask) r [] (numbered true e ∙ past _ _ refl ∙ at-end) (a ∙ rw (e, o, f, t))
-                refl
+            go true e =
+                accepts-so d (opens ask) r [] (numbered true e ∙ past _ _ refl ∙ at-end) (a ∙ rw (e, o, f, t)) refl
             go false e = refuses-so d (opens ask) 5 r [] (numbered false e ∙ here _ _ refl) (λ z. omega arith)
                 (a ∙ rw e) (nothing-lent 5)

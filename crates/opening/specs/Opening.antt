@@ -20,6 +20,5 @@ openNew d ask i =
     unless (cond (isFound (freePlaceFound d)) 0 5) d
     (done 0 0 (record {
       pages = set (d .pages) i (newPage ask freshTable);
-      places = setAt (freePlaceFound d) (reservedPlace (ask .key))
-          (d .places);
+      places = setAt (freePlaceFound d) (reservedPlace (ask .key)) (d .places);
     }))

@@ -45,8 +45,8 @@ module _ {A B C : Type 0} (f : A → B → C) where
   unfolding beside
   left-beside g k [] ys e = refl
   left-beside g k (a ∷ xs) [] e = absurd (omega arith)
-  left-beside g k (a ∷ xs) (b ∷ ys) e = ap₂ (λ (z : A) (zs : List A). z ∷ zs) (k a b)
-      (left-beside g k xs ys (one-less e))
+  left-beside g k (a ∷ xs) (b ∷ ys) e =
+      ap₂ (λ (z : A) (zs : List A). z ∷ zs) (k a b) (left-beside g k xs ys (one-less e))
 
   pub right-beside : (h : C → B) → ((x : A) (y : B) → h (f x y) ≡ y) → (xs : List A) (ys : List B)
       → length xs ≡ length ys → map h
@@ -55,8 +55,8 @@ module _ {A B C : Type 0} (f : A → B → C) where
   right-beside h k [] [] e = refl
   right-beside h k [] (b ∷ ys) e = absurd (omega arith)
   right-beside h k (a ∷ xs) [] e = absurd (omega arith)
-  right-beside h k (a ∷ xs) (b ∷ ys) e = ap₂ (λ (z : B) (zs : List B). z ∷ zs) (k a b)
-      (right-beside h k xs ys (one-less e))
+  right-beside h k (a ∷ xs) (b ∷ ys) e =
+      ap₂ (λ (z : B) (zs : List B). z ∷ zs) (k a b) (right-beside h k xs ys (one-less e))
 
 pub map-twice : {A B C : Type 0} (g : C → B) (h : B → A) (cs : List C) → map (λ c. h (g c)) cs ≡ map h (map g cs)
 map-twice g h [] = refl

@@ -42,8 +42,8 @@ module _ (ls : List PageLine) (ts rs : List (List ℕ)) (e : length ls ≡ lengt
 
   -- what was joined can be read off again
   pairs-off : map (λ (p : Page). (pageLineOf p, p .table .entries)) (pagesOf ls ts rs) ≡ beside paired ls ts
-  pairs-off = left-beside joined (λ p. (pageLineOf p, p .table .entries)) (λ x y. refl) (beside paired ls ts)
-      rs pairs-long
+  pairs-off =
+      left-beside joined (λ p. (pageLineOf p, p .table .entries)) (λ x y. refl) (beside paired ls ts) rs pairs-long
 
   pub lines-off : map pageLineOf (pagesOf ls ts rs) ≡ ls
   lines-off =

@@ -48,8 +48,7 @@ page-as {book = book} {working = working} {rows = rows} {i = i} e p =
     record {
       places = p .places;
       pages = p .pages ∙ ap (set (pagesOf (book .pages) working rows) i) e;
-      sizes =
-          p .sizes;
+      sizes = p .sizes;
     }
 
 pub place-as : {book next : Book} {learned learned′ : List (List ℕ)} {found : Found} {a b : Place} → a ≡ b

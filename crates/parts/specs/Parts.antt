@@ -27,8 +27,8 @@ beside f (x ∷ xs) (y ∷ ys) = f x y ∷ beside f xs ys
 
 -- the pages: each line of the book with what stands at its index in the two arrays
 abbrev pub pagesOf : List PageLine → List (List ℕ) → List (List ℕ) → List Page
-pagesOf lines tables lasts = beside (λ (p : PageLine × List ℕ) last. asPage (p .0) (p .1) last)
-    (beside (λ l t. (l, t)) lines tables) lasts
+pagesOf lines tables lasts =
+    beside (λ (p : PageLine × List ℕ) last. asPage (p .0) (p .1) last) (beside (λ l t. (l, t)) lines tables) lasts
 
 -- the places: each line of the book with what stands at its index in the array
 abbrev pub placesOf : List PlaceLine → List (List ℕ) → List Place
@@ -38,8 +38,7 @@ placesOf lines tables = beside asPlace lines tables
 abbrev pub deskOf : Parts → Desk
 deskOf p = record {
   pages = pagesOf (p .book .pages) (p .working) (p .rows);
-  places = placesOf (p .book .places)
-      (p .learned);
+  places = placesOf (p .book .places) (p .learned);
 }
 
 -- the book and the three arrays, as parts

@@ -83,8 +83,7 @@ module _ (width rows : ℕ) (table : Table) (last given out₀ above : List ℕ)
           good = true;
           length = rows * rowBytes width;
           shifts = r .coder .interval .count;
-          table =
-              record { entries = r .table .entries };
+          table = record { entries = r .table .entries };
           last = above;
         }) out
     unfolding readAnswer readOut inFront
@@ -97,8 +96,7 @@ module _ (width rows : ℕ) (table : Table) (last given out₀ above : List ℕ)
                 room = true;
                 good = true;
                 length = sym (b .isBand .size) i;
-                shifts =
-                    sym shifts-is i;
+                shifts = sym shifts-is i;
                 table = record { entries = sym table-is i };
                 last = sym (last-is some-rows) i;
               });
@@ -138,14 +136,14 @@ read-nothing width rows table last given out₀ after f a =
 pub fits-when : (width rows bytes′ : ℕ) (out : List ℕ) → bytes′ ≡ rowBytes width → rows * bytes′ ≤ length out
     → rowsFit width rows out ≡ true
 unfolding rowsFit
-fits-when width rows bytes′ out e h = le-leb (rows * rowBytes width) (length out)
-    (subst (λ (k : ℕ). rows * k ≤ length out) e h)
+fits-when width rows bytes′ out e h =
+    le-leb (rows * rowBytes width) (length out) (subst (λ (k : ℕ). rows * k ≤ length out) e h)
 
 pub fits-not : (width rows bytes′ : ℕ) (out : List ℕ) → bytes′ ≡ rowBytes width → length out < rows * bytes′
     → rowsFit width rows out ≡ false
 unfolding rowsFit
-fits-not width rows bytes′ out e h = lt-leb (rows * rowBytes width) (length out)
-    (subst (λ (k : ℕ). length out < rows * k) e h)
+fits-not width rows bytes′ out e h =
+    lt-leb (rows * rowBytes width) (length out) (subst (λ (k : ℕ). length out < rows * k) e h)
 
 pub as-compared : (g s r : Bool) (n len : ℕ) (v : Bool) → s ≡ g → r ≡ (s && eqb n len) → r ≡ v → (g && eqb n len) ≡ v
 as-compared g s r n len v e f h = ap (λ (b : Bool). b && eqb n len) (sym e) ∙ sym f ∙ h

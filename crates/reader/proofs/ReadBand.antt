@@ -36,8 +36,8 @@ module _ (width y : ℕ) (band row : List ℕ) (size : length band ≡ y * rowBy
   padded-before : (n : ℕ) → n ≤ y → bandPadded width (band ++ row) n ≡ bandPadded width band n
   unfolding bandPadded
   padded-before zero h = refl
-  padded-before (suc n) h = ap₂ (λ (b : Bool) (r : List ℕ). b && rowPadded width r) (padded-before n (omega arith))
-      (row-before n h)
+  padded-before (suc n) h =
+      ap₂ (λ (b : Bool) (r : List ℕ). b && rowPadded width r) (padded-before n (omega arith)) (row-before n h)
 
   pub pels-grow : bandTo width (band ++ row) (suc y) ≡ bandTo width band y ++ pelsTo row width
   unfolding bandTo

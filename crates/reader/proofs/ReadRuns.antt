@@ -32,8 +32,8 @@ pub match-none : (c : Coder) (e : ℕ) (b : Bool) (u : Pel) (code : List ℕ) (a
     → u .moved ≡ false
     → good ≡ (good && matches code at (bytesOf u))
 unfolding matches
-match-none c e b u code at good k z = sym (with-true good) ∙ ap (λ (bs : List ℕ). good && matches code at bs)
-    (sym (pelled-quiet c e b u k z))
+match-none c e b u code at good k z =
+    sym (with-true good) ∙ ap (λ (bs : List ℕ). good && matches code at bs) (sym (pelled-quiet c e b u k z))
 
 -- what fits into the room is told
 pub told-so : (n q r p x : ℕ) → n * q ≤ r → r * p ≤ x → n * q * p ≤ x

@@ -94,8 +94,7 @@ module _ (d : Desk) (ask : Ask) (code out : List ℕ) (i : ℕ) (t : StoodTo d (
         good = true;
         length = length band;
         shifts = w .shifts;
-        table =
-            record { entries = w .table };
+        table = record { entries = w .table };
         last = w .last;
       }
 

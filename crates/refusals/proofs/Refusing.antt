@@ -260,8 +260,8 @@ module _ (p : Parts) (w : Whole p) (c : Call) where
       → n ≢ 0
       → x ≡ refusedBy (numberOf s) (p .book) → after ≡ lentAfter n (lentTo c)
       → Serves p c (x .answer) (partsOf (x .book) (p .working) (p .rows) (p .learned)) after
-  turns-away s n x after f e h q l = refuses n x after e h (q ∙ ap (λ (t : Stands). refusedBy (numberOf t) (p .book))
-      f) l
+  turns-away s n x after f e h q l =
+      refuses n x after e h (q ∙ ap (λ (t : Stands). refusedBy (numberOf t) (p .book)) f) l
 
 -- the book and the arrays that it leaves, their sizes kept
 pub accepts : (p : Parts) (c : Call) (x : Reply) (book : Book) (working rows learned : List (List ℕ)) (after : List ℕ)
@@ -302,8 +302,8 @@ module _ (p : Parts) (w : Whole p) where
   pub stands-as : (good : Bool) (k : Key) (z : Bool) (s : Stands) → good ≡ lawful (deskOf p)
       → s ≡ standing good (lawfulKey k) z (findBy (pageSought (Used k)) (p .book .pages) 0)
       → s ≡ standing (lawful (deskOf p)) (lawfulKey k) z (pageFound (deskOf p) k)
-  stands-as good k z s g e = e ∙ ap₂ (λ (b : Bool) (f : Found). standing b (lawfulKey k) z f) g
-      (sym (find-pages p w (Used k)))
+  stands-as good k z s g e =
+      e ∙ ap₂ (λ (b : Bool) (f : Found). standing b (lawfulKey k) z f) g (sym (find-pages p w (Used k)))
 
   -- the same with 7: how the call was told that the desk is lawful and its sizes right does not matter
   module _ (k : Key) (fits : Bool) (way : ℕ) (t : Stands) (good small : Bool) (g : good ≡ lawful (deskOf p))

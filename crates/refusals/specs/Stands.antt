@@ -21,8 +21,8 @@ onPage (At i) = On i
 onPage Nothing = Refused 2
 
 unfoldable pub standing : Bool → Bool → Bool → Found → Stands
-standing good known sized found = cond good (cond known (cond sized (onPage found) (Refused 6)) (Refused 1))
-    (Refused 12)
+standing good known sized found =
+    cond good (cond known (cond sized (onPage found) (Refused 6)) (Refused 1)) (Refused 12)
 
 -- 7, where the page is open in the other direction
 unfoldable pub standingTo : List PageLine → ℕ → Stands → Stands

@@ -34,7 +34,8 @@ use Rattle.template.specs.Window.{Slid}
 use Rattle.template.proofs.Sliding.{slid-next, slid-small, length-pels, pels-bits, pel-bit}
 use Rattle.row.specs.declared.Pel.{Pel}
 use Rattle.band.specs.Band.{qWriter, qPage}
-use Rattle.row.specs.WrittenRow.{shiftedBy, Pelled, stillPel, decided, movedPel, bytesOf, pageOf, stageOf, through}
+use Rattle.row.specs.WrittenRow.{shiftedBy, Pelled, stillPel, decided, movedPel, bytesOf, pageOf, stageOf}
+use Rattle.row.specs.WrittenRow.{through}
 use Rattle.row.specs.WrittenRow.{begun, RowDone}
 
 pub pelled-still : (c : Coder) (e : ℕ) → 4096 + rowOf e ≤ c .interval .width → Pelled c e true (stillPel c e)
@@ -45,8 +46,7 @@ pelled-still c e h =
       entry = rw n;
       moved = sym n;
       quiet = λ z. refl;
-      few =
-          omega arith;
+      few = omega arith;
     }
 
 pub pelled-moved : (c : Coder) (e : ℕ) (b : Bool) (u : Put) (n : ℕ) → partOf (decided e b) (c .interval) .width < 4096
@@ -94,14 +94,13 @@ lift-behind c xs = λ i. record {
   interval = c .interval;
   until = c .until;
   held = c .held;
-  settled =
-      sym (append-nil xs) i;
+  settled = sym (append-nil xs) i;
 }
 
 pelled-after : (c : Coder) (e : ℕ) (b : Bool) (v : Pel) (xs : List ℕ) → Pelled c e b v → pel (decided e b) (lift c xs)
     ≡ lift (v .coder) (xs ++ bytesOf v)
-pelled-after c e b v xs k = ap (pel (decided e b)) (lift-behind c xs) ∙ behind-pel (decided e b) xs (lift c [])
-    ∙ ap (behind xs) (k .registers)
+pelled-after c e b v xs k =
+    ap (pel (decided e b)) (lift-behind c xs) ∙ behind-pel (decided e b) xs (lift c []) ∙ ap (behind xs) (k .registers)
 
 module _ (width : ℕ) where
   -- within the row no row is full
@@ -168,8 +167,7 @@ module _ (width : ℕ) where
           place = omega arith;
           few = omega arith;
           slid = s;
-          lawful =
-              l;
+          lawful = l;
           ready = r;
           count = omega arith;
           passed = omega arith;

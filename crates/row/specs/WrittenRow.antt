@@ -50,8 +50,7 @@ movedPel u n = record {
   moved = true;
   settled = u .settled;
   first = u .first;
-  second =
-      u .second;
+  second = u .second;
 }
 
 -- ---- a row

@@ -89,8 +89,7 @@ fn put_pel(coder: Coder, e: u8, expected: bool) -> Pel
 }
 
 // Whether a white run may begin: context 0, which expects white and has learned it so well that the next pels hardly
-// shift, in a row that is
-// wide enough to be looked along.
+// shift, in a row that is wide enough to be looked along.
 pub fn starts_run(white: u8, cx: usize, p: u8, width: usize) -> bool
     requires { ⌜ p ≤ 1 ⌝ }
     ensures { λ r. ⌜ (r ≡ true → (white % 2 ≡ 0) × (cx ≡ 0)) ⌝ }

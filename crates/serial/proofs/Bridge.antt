@@ -99,8 +99,7 @@ module _ (R : Reader) where
             (record {
               mark = mark-refused m (subst (λ (n : ℕ). ForRoom n ≡ false) a (l .other));
               output = refl;
-              desk =
-                  refl;
+              desk = refl;
             })
         go zero a true f q g = rw (by-number 4 (numbered 0 true q a f g), act-is, a, f)
             (record { mark = refl; output = refl; desk = refl })

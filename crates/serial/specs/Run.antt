@@ -42,8 +42,7 @@ calling = record {
   same-self = key-self;
   same-only = key-only;
   Call = Call;
-  Output =
-      Output;
+  Output = Output;
   key = keyOf;
   kind = kindOf;
 }

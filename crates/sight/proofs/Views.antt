@@ -60,8 +60,7 @@ seeks-few zero r h =
       width = sym (mul-one (r .width)) i;
       x = r .x;
       look = sym (sub-zero (r .look)) i;
-      last =
-          r .last;
+      last = r .last;
       unread = r .unread;
     }
 seeks-few (suc k) r h =
@@ -71,8 +70,7 @@ seeks-few (suc k) r h =
       x = r .x;
       look = less (r .look) i;
       last = r .last;
-      unread =
-          r .unread;
+      unread = r .unread;
     })
   where
     less : (l : ℕ) → l - 1 - k ≡ l - suc k
@@ -94,8 +92,7 @@ seeks-more (suc k) (suc l) r e h =
     (λ i. record {
       width = 2 * r .width;
       x = (r .x * 2 ^ bits (r .last) + getD (r .unread) 0 0) % 2 ^ 32;
-      look =
-          swap (r .look) (bits (r .last)) e i;
+      look = swap (r .look) (bits (r .last)) e i;
       last = getD (r .unread) 0 0;
       unread = drop 1 (r .unread);
     })
@@ -154,8 +151,7 @@ view-more v w byte at n p code b d e f =
     λ i. record {
       width = w;
       x = (v .x * (f ∙ ap (λ (k : ℕ). 2 ^ k) e) i + b i) % 4294967296;
-      look =
-          v .look + e i;
+      look = v .look + e i;
       last = b i;
       unread = d i;
     }
@@ -172,8 +168,7 @@ view-start a b at at′ n p code ea da eb db en ep =
       x = ea i * (ep ∙ ap (λ (y : ℕ). 2 ^ y) k) i + m i;
       look = k i - 4;
       last = m i;
-      unread =
-          (db ∙ ap (λ (l : List ℕ). drop 1 l) da ∙ drop-drop 1 1 code) i;
+      unread = (db ∙ ap (λ (l : List ℕ). drop 1 l) da ∙ drop-drop 1 1 code) i;
     }
 
 pub told-bit : (c : Coder) (v : View) (code : List ℕ) (e : ℕ) (t : Told) → ReadPel c v code e t → t .p ≤ 1

@@ -26,5 +26,5 @@ shown-none out bytes = refl
 pub shown-all : (out bytes : List ℕ) (i : ℕ) → i ≡ length bytes → length bytes ≤ length out
     → shown out bytes i ≡ inFront bytes out
 unfolding shown stores storeAt
-shown-all out bytes i e h = ap (λ (xs : List ℕ). stores out 1 xs) (take-all i bytes (omega arith)) ∙ stores-fit out
-    (0 ∷ bytes) h
+shown-all out bytes i e h =
+    ap (λ (xs : List ℕ). stores out 1 xs) (take-all i bytes (omega arith)) ∙ stores-fit out (0 ∷ bytes) h

@@ -64,8 +64,7 @@ clear-later row above width x y z h f =
     record {
       within = f .within;
       white = white-part row x y z y h (omega arith) (f .white);
-      under = under-part above x y z y h (omega arith)
-          (f .under);
+      under = under-part above x y z y h (omega arith) (f .under);
     }
 
 -- a window that is all white is such a one

@@ -22,7 +22,7 @@ module _ (S : Service) where
   pub whole-accepted : {es : List (Entry S)} → Whole S es → AllAccepted es
   unfolding AllAccepted
   whole-accepted nothing = tt
-  whole-accepted (page k es e rest b m q r w) = joined (es ++ (e ∷ [])) rest (joined es (e ∷ []) (begun-accepted b)
-      (m, tt)) (whole-accepted w)
+  whole-accepted (page k es e rest b m q r w) =
+      joined (es ++ (e ∷ [])) rest (joined es (e ∷ []) (begun-accepted b) (m, tt)) (whole-accepted w)
   whole-accepted (look e rest m q w) = (m, whole-accepted w)
   whole-accepted (change e rest m q w) = (m, whole-accepted w)

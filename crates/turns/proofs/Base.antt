@@ -11,7 +11,7 @@ use borrow.Author.Tests.{leb-false, lt-leb}
 use Rattle.ground.specs.Options.{given}
 use Rattle.ground.proofs.Bools.{no-way}
 use Rattle.turns.specs.Service.{Keys, Service, put, Entry, calls}
-use Rattle.turns.specs.Desk.{one}
+use Rattle.turns.specs.Base.{one}
 use Rattle.turns.proofs.CellDesk.{placed}
 
 pub one-le : (b : Bool) → one b ≤ 1

@@ -7,7 +7,7 @@ use lib.Dec.{leb}
 use Rattle.ground.specs.Options.{given}
 use Rattle.turns.specs.Service.{Mark, accepted, refused, crowded, keys, put, Entry}
 use Rattle.turns.proofs.Office.{Cell, Result, refuse, accept, Office, cell, service}
-use Rattle.turns.specs.Desk.{one}
+use Rattle.turns.specs.Base.{one}
 
 -- a place is taken by a learned table, or reserved by an open page
 abbrev pub placed : {T P : Type 0} → Option T → Option P → Bool

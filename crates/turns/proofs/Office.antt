@@ -50,8 +50,7 @@ service O = record {
   same = O .same;
   same-self = O .same-self;
   same-only = O .same-only;
-  Call =
-      O .Call;
+  Call = O .Call;
   Output = O .Output;
   key = O .key;
   kind = O .kind;

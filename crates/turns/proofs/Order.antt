@@ -35,8 +35,8 @@ module _ (S : Service) where
   serves-standing crowded κ w e p q h = refl
   serves-standing accepted opening w e p q h = refl
   serves-standing accepted band w e p q h = refl
-  serves-standing accepted closing w e p q h = standing-append (w (key (e .call))) (e ∷ [])
-      ∙ rw (h (key (e .call)), p, q)
+  serves-standing accepted closing w e p q h =
+      standing-append (w (key (e .call))) (e ∷ []) ∙ rw (h (key (e .call)), p, q)
   serves-standing accepted abandoning w e p q h = refl
   serves-standing accepted looking w e p q h = rw (p, q)
   serves-standing accepted changing w e p q h = rw (p, q)
@@ -46,15 +46,15 @@ module _ (S : Service) where
   unfolding waitsAs standing
   waits-quiet refused κ w e p q h = h
   waits-quiet crowded κ w e p q h = h
-  waits-quiet accepted opening w e p q h = put-each (keys S) (λ j l. (standing S) l ≡ []) (key (e .call)) (e ∷ []) w
-      (rw (p, q)) (λ j n. h j)
+  waits-quiet accepted opening w e p q h =
+      put-each (keys S) (λ j l. (standing S) l ≡ []) (key (e .call)) (e ∷ []) w (rw (p, q)) (λ j n. h j)
   waits-quiet accepted band w e p q h = put-each (keys S) (λ j l. (standing S) l ≡ []) (key (e .call))
       (w (key (e .call)) ++ (e ∷ [])) w (standing-append (w (key (e .call))) (e ∷ []) ∙ rw (h (key (e .call)), p, q))
       (λ j n. h j)
-  waits-quiet accepted closing w e p q h = put-each (keys S) (λ j l. (standing S) l ≡ []) (key (e .call)) [] w refl
-      (λ j n. h j)
-  waits-quiet accepted abandoning w e p q h = put-each (keys S) (λ j l. (standing S) l ≡ []) (key (e .call)) [] w refl
-      (λ j n. h j)
+  waits-quiet accepted closing w e p q h =
+      put-each (keys S) (λ j l. (standing S) l ≡ []) (key (e .call)) [] w refl (λ j n. h j)
+  waits-quiet accepted abandoning w e p q h =
+      put-each (keys S) (λ j l. (standing S) l ≡ []) (key (e .call)) [] w refl (λ j n. h j)
   waits-quiet accepted looking w e p q h = h
   waits-quiet accepted changing w e p q h = h
 
@@ -130,8 +130,8 @@ module _ (S : Service) where
     other-serves crowded κ w u e q h = refl
     other-serves accepted opening w u e q h = refl
     other-serves accepted band w u e q h = refl
-    other-serves accepted closing w u e q h = ofKey-append (w (key (e .call))) (e ∷ [])
-        ∙ rw (h .others (key (e .call)) q, q)
+    other-serves accepted closing w u e q h =
+        ofKey-append (w (key (e .call))) (e ∷ []) ∙ rw (h .others (key (e .call)) q, q)
     other-serves accepted abandoning w u e q h = refl
     other-serves accepted looking w u e q h = rw q
     other-serves accepted changing w u e q h = rw q

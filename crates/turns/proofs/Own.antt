@@ -173,10 +173,10 @@ module _ (S : Service) (k : S .Key) where
         ∙ ap (λ l. l ++ (own S k) (serialFrom S (put (keys S) (key (e .call)) [] w) es)) (page-out n) ∙ after-put []
         true n own-none
     theirs accepted abandoning n = after-put [] false n own-none
-    theirs accepted looking n = own-not e (serialFrom S w es) n ∙ ih w h ∙ ap (λ z. cond (closedIn S k es) (w k) []
-        ++ z) (left-out true n)
-    theirs accepted changing n = own-not e (serialFrom S w es) n ∙ ih w h ∙ ap (λ z. cond (closedIn S k es) (w k) []
-        ++ z) (left-out true n)
+    theirs accepted looking n =
+        own-not e (serialFrom S w es) n ∙ ih w h ∙ ap (λ z. cond (closedIn S k es) (w k) [] ++ z) (left-out true n)
+    theirs accepted changing n =
+        own-not e (serialFrom S w es) n ∙ ih w h ∙ ap (λ z. cond (closedIn S k es) (w k) [] ++ z) (left-out true n)
 
     either : (v : Bool) → same (key (e .call)) k ≡ v → Goal (e .mark) (kind (e .call)) v
     either true f = mine (e .mark) (kind (e .call)) refl (same-only (key (e .call)) k f)

@@ -47,8 +47,7 @@ module _ (K : Keys) (Table Page : Type 0) where
   slotStore s k y =
       record {
         pageSlots = update K Page k (y .page) (s .pageSlots);
-        classPlaces = update K (Option Table) k
-            (placeOf (y .learned) (y .page)) (s .classPlaces);
+        classPlaces = update K (Option Table) k (placeOf (y .learned) (y .page)) (s .classPlaces);
       }
 
   -- 4: a page is to be opened, and no slot is free; 5: a place is to be taken, and none is free
@@ -81,8 +80,7 @@ module _ (K : Keys) (Table Page : Type 0) where
     unfolding slotStore
     own-cell = λ i. record {
       learned = sym (ap join (places-then .self) ∙ join-place (y .learned) (y .page)) i;
-      page =
-          sym (pages-then .self) i;
+      page = sym (pages-then .self) i;
     }
 
     pub other-cell : (j : Key) → same k j ≡ false → cellAt (slotStore s k y) j ≡ cellAt s j

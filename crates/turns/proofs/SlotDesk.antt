@@ -47,8 +47,8 @@ module _ (O : Office) where
 
   unfoldable pub slotSettle : Slotted → Call → Result Output (Cell Table Page) → SlotOutcome
   slotSettle s c (refuse o) = record { mark = refused; output = o; desk = s }
-  slotSettle s c (accept o y) = slotAdmit (noSlot K Table Page s (key c) y) (noClassPlace K Table Page s (key c) y) s c
-      o y
+  slotSettle s c (accept o y) =
+      slotAdmit (noSlot K Table Page s (key c) y) (noClassPlace K Table Page s (key c) y) s c o y
 
   -- one call
   unfoldable pub slotStep : Slotted → Call → SlotOutcome
@@ -157,8 +157,7 @@ module _ (O : Office) where
         fitting =
             record {
               fits = λ j. rw (frees-find K (Option Table) places j, frees-find K Page pages j);
-              lone-pages =
-                  frees-lone K Page pages;
+              lone-pages = frees-lone K Page pages;
               lone-places = frees-lone K (Option Table) places;
             };
         size-pages = frees-length (Named K Page) pages;

@@ -11,7 +11,7 @@ use borrow.Author.Tests.{lt-leb}
 use Rattle.ground.proofs.Options.{none-given}
 use Rattle.ground.specs.Options.{given}
 use Rattle.turns.specs.Service.{Keys}
-use Rattle.turns.specs.Desk.{one}
+use Rattle.turns.specs.Base.{one}
 use Rattle.ground.proofs.Bools.{no-way}
 
 module _ (K : Keys) (A : Type 0) where
@@ -275,15 +275,13 @@ module _ (K : Keys) (A : Type 0) where
             self = own-erase k s l;
             other = λ j n. find-erase k j s n;
             lone = lone-erase k s l;
-            size =
-                length-erase k s;
+            size = length-erase k s;
             count = rw e (omega (arith, used-erase k s e));
           }
       go true (some a) e r = record {
         self = own-replace k a s e;
         other = λ j n. find-replace k j a s n;
-        lone =
-            lone-replace k a s l;
+        lone = lone-replace k a s l;
         size = length-replace k a s;
         count = rw (e, used-replace k a s) (omega arith);
       }
@@ -292,16 +290,13 @@ module _ (K : Keys) (A : Type 0) where
         other = λ j n. refl;
         lone = l;
         size = refl;
-        count =
-            rw e (omega arith);
+        count = rw e (omega arith);
       }
       go false (some a) e r =
           record {
             self = own-insert k a s e (is-free (free s) r);
             other = λ j n. find-insert k j a s n;
-            lone =
-                lone-insert k a s e l;
+            lone = lone-insert k a s e l;
             size = length-insert k a s;
-            count = rw (e, used-insert k a s (is-free (free s) r))
-                (omega arith);
+            count = rw (e, used-insert k a s (is-free (free s) r)) (omega arith);
           }

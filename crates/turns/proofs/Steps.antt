@@ -11,7 +11,7 @@ use Rattle.ground.specs.Options.{given}
 use Rattle.ground.proofs.Bools.{no-way, and-false}
 use Rattle.turns.specs.Service.{accepted, refused, crowded, keys, put, Entry, Service, Keys}
 use Rattle.turns.proofs.Office.{Cell, Result, refuse, accept, Office, cell, service}
-use Rattle.turns.specs.Desk.{one}
+use Rattle.turns.specs.Base.{one}
 use Rattle.turns.proofs.CellDesk.{hasPage, hasPlace, Desk, Outcome, store, noPage, noPlace, admit, settle, step}
 use Rattle.turns.proofs.CellDesk.{run}
 use Rattle.turns.proofs.CellDesk.{after}

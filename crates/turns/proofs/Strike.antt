@@ -7,7 +7,7 @@ use Prim.Native.Nat.{ℕ, _+_}
 use native.Mathlib.Omega.{arith}
 use Rattle.turns.specs.Service.{Kind, opening, band, closing, abandoning, looking, changing, Mark, accepted}
 use Rattle.turns.specs.Service.{refused, crowded, Service, keys, put, Entry}
-use Rattle.turns.specs.Desk.{one}
+use Rattle.turns.specs.Base.{one}
 use Rattle.turns.specs.Serial.{Waiting, waitsAs, servesAs, serialFrom, serial}
 use Rattle.turns.specs.Base.{keep}
 use Rattle.turns.proofs.Base.{put-each}
@@ -52,10 +52,10 @@ module _ (S : Service) where
     own-turn refused κ w e r q = omega arith
     own-turn crowded κ w e r q = omega arith
     own-turn accepted opening w e r q = rw (q, same-self k, q, same-self k) (num-open r (one (t e)))
-    own-turn accepted band w e r q = rw (q, same-self k, count-append (w k) (e ∷ []), q, same-self k)
-        (num-band r ((count S k t) (w k)) (one (t e)))
-    own-turn accepted closing w e r q = rw (q, same-self k, count-append (w k) (e ∷ []), q, same-self k, num-none r)
-        (omega arith)
+    own-turn accepted band w e r q =
+        rw (q, same-self k, count-append (w k) (e ∷ []), q, same-self k) (num-band r ((count S k t) (w k)) (one (t e)))
+    own-turn accepted closing w e r q =
+        rw (q, same-self k, count-append (w k) (e ∷ []), q, same-self k, num-none r) (omega arith)
     own-turn accepted abandoning w e r q = rw (q, same-self k, num-none r) (omega arith)
     own-turn accepted looking w e r q = rw (q, same-self k) (omega arith)
     own-turn accepted changing w e r q = rw (q, same-self k) (omega arith)

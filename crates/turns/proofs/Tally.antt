@@ -8,7 +8,7 @@ use lib.ListN.{length}
 use Rattle.ground.specs.Options.{given}
 use Rattle.turns.specs.Service.{keys, Service, Keys}
 use Rattle.turns.proofs.Office.{Cell, Office, service}
-use Rattle.turns.specs.Desk.{one}
+use Rattle.turns.specs.Base.{one}
 use Rattle.turns.proofs.CellDesk.{hasPlace, Desk, store, noPlace}
 use Rattle.turns.specs.Serial.{page}
 use Rattle.turns.proofs.Base.{onlyReserved, placed-sum, room-below, put-each, has, relist, has-one}
@@ -38,8 +38,8 @@ module _ (O : Office) where
   learnedNow d k y ls = relist K k (given (d .cells k .learned)) (given (y .learned)) ls
 
   abbrev pub reservedNow : Desk O → Key → Cell Table Page → List Key → List Key
-  reservedNow d k y ks = relist K k (onlyReserved (d .cells k .learned) (d .cells k .page))
-      (onlyReserved (y .learned) (y .page)) ks
+  reservedNow d k y ks =
+      relist K k (onlyReserved (d .cells k .learned) (d .cells k .page)) (onlyReserved (y .learned) (y .page)) ks
 
   one-in : (k : Key) (b : Bool) (js : List Key) → (b ≡ true → has K k js ≡ true) → one b ≤ length js
   one-in k true js h = has-one K k js (h refl)

@@ -1,7 +1,6 @@
 -- The serial order of a run, served on a new desk, answers as before and leaves the same learned tables: for every
--- office with the
--- six laws. While a page is open its key's learned table cannot change, which is why a page may move to its closing.
--- Assumes nothing.
+-- office with the six laws. While a page is open its key's learned table cannot change, which is why a page may move to
+-- its closing. Assumes nothing.
 use mathlib.Core.Path.{_≡_, refl, sym, ap, _∙_, subst}
 use mathlib.Core.Bool.{Bool, true, false, _&&_, not}
 use mathlib.Core.List.{List, [], _∷_, _++_}
@@ -16,7 +15,7 @@ use Rattle.ground.proofs.Bools.{no-way}
 use Rattle.turns.specs.Service.{Kind, opening, band, closing, abandoning, looking, changing, accepted, keys, put}
 use Rattle.turns.specs.Service.{Entry, calls, Service, Keys}
 use Rattle.turns.proofs.Office.{Cell, accept, Office, cell, service}
-use Rattle.turns.specs.Desk.{one}
+use Rattle.turns.specs.Base.{one}
 use Rattle.turns.proofs.CellDesk.{placed, hasPage, hasPlace, Desk, Outcome, newDesk, store, noPage, noPlace}
 use Rattle.turns.proofs.CellDesk.{step}
 use Rattle.turns.proofs.CellDesk.{entry, run, after}
@@ -147,8 +146,8 @@ module _ (O : Office) where
     }
 
     length-now : length ls′ ≡ length ls + one (given (y .learned)) - one (given (d .cells (key c) .learned))
-    length-now = relist-length K (key c) (given (d .cells (key c) .learned)) (given (y .learned)) ls
-        (inv .tally .learnt (key c))
+    length-now =
+        relist-length K (key c) (given (d .cells (key c) .learned)) (given (y .learned)) ls (inv .tally .learnt (key c))
 
     length-same : y .learned ≡ d .cells (key c) .learned → length ls′ ≡ length ls
     length-same e = length-now ∙ go

@@ -1,6 +1,5 @@
 pub mod Service
 pub mod Serial
-pub mod Desk
 pub mod Base
 pub mod Order
 pub mod Strike

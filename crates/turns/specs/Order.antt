@@ -1,4 +1,4 @@
--- What stands in a list of calls of its own accord, and what is of one key. Assumes nothing.
+-- The calls that keep their own place in the order (closings, looks, drops), and the calls of one key. Assumes nothing.
 use mathlib.Core.Bool.{Bool, true, false}
 use mathlib.Core.List.{List, [], _∷_}
 use Rattle.turns.specs.Service.{Kind, opening, band, closing, abandoning, looking, changing, Mark, accepted}

@@ -1,7 +1,6 @@
--- "Strike out the refused calls and every page that was abandoned or never closed, with all its calls.
--- Serve what is left one whole page at a time, in the order in which the pages were closed,
--- each drop or look keeping its own place in that order."
--- Said of a list of calls with their answers; there is no desk in it. Assumes nothing.
+-- "Strike out the refused calls and every page that was abandoned or never closed, with all its calls. Serve what is
+-- left one whole page at a time, in the order in which the pages were closed, each drop or look keeping its own place
+-- in that order." Said of a list of calls with their answers; there is no desk in it. Assumes nothing.
 use mathlib.Core.Path.{_≡_}
 use mathlib.Core.List.{List, [], _∷_, _++_}
 use Rattle.turns.specs.Service.{Kind, opening, band, closing, abandoning, looking, changing, Mark, accepted}
@@ -43,8 +42,8 @@ module _ (S : Service) where
   -- what is served of the calls to come, where these pages wait
   unfoldable pub serialFrom : Waiting → List (Entry S) → List (Entry S)
   serialFrom w [] = []
-  serialFrom w (e ∷ es) = servesAs (e .mark) (kind (e .call)) w e ++ serialFrom
-      (waitsAs (e .mark) (kind (e .call)) w e) es
+  serialFrom w (e ∷ es) =
+      servesAs (e .mark) (kind (e .call)) w e ++ serialFrom (waitsAs (e .mark) (kind (e .call)) w e) es
 
   -- what is left of a run, in the order in which it is served: at first nothing waits
   unfoldable pub serial : List (Entry S) → List (Entry S)

@@ -5,7 +5,7 @@ use mathlib.Core.List.{List, [], _∷_}
 use Prim.Native.Nat.{ℕ, _+_}
 use Rattle.turns.specs.Service.{Kind, opening, band, closing, abandoning, looking, changing, Mark, accepted}
 use Rattle.turns.specs.Service.{refused, crowded, Service, Entry}
-use Rattle.turns.specs.Desk.{one}
+use Rattle.turns.specs.Base.{one}
 use Rattle.turns.specs.Base.{keep}
 
 -- one call more: what becomes of a page, given whether the call is of its key, and what becomes of the page later

@@ -26,8 +26,8 @@ sameBytes (x ∷ a) (y ∷ b) = eqb x y && sameBytes a b
 
 -- a padded band that is written as the code
 unfoldable pub writtenSo : ℕ → ℕ → List ℕ → List ℕ → List ℕ → List ℕ → Bool
-writtenSo width rows table last code band = bandPadded width band rows && sameBytes
-    (written width rows table last band .code) code
+writtenSo width rows table last code band =
+    bandPadded width band rows && sameBytes (written width rows table last band .code) code
 
 -- the band that is found, among all lists of that many bytes
 unfoldable pub readBack : ℕ → ℕ → List ℕ → List ℕ → List ℕ → Option (List ℕ)

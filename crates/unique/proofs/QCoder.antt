@@ -57,8 +57,7 @@ reached-put q e w z r =
     record {
       ds = r .ds ++ (decision q e ∷ []);
       sized = all-snoc (r .ds) (decision q e) (r .sized) (size q e z);
-      is =
-          run-snoc (r .ds) (decision q e) start ∙ ap (pel (decision q e)) (r .is);
+      is = run-snoc (r .ds) (decision q e) start ∙ ap (pel (decision q e)) (r .is);
     }
 
 ends-here : (w : Registers) → Reached w → Ends w (code w)
@@ -68,8 +67,7 @@ ends-here w r =
     ∷ drop 1 (bytes (finish v))) (r .is) (code-bytes (r .ds) (r .sized)) in
     record {
       total = w .interval .count;
-      going = subst (λ (l : List ℕ). Going w l (w .interval .count)) e
-          (going-end w (ready w r .rest));
+      going = subst (λ (l : List ℕ). Going w l (w .interval .count)) e (going-end w (ready w r .rest));
     }
 
 ends-part : (q : ℕ) (e : Bool) (w : Registers) (c : List ℕ) → Sized q → Reached w → Ends (pel (decision q e) w) c
@@ -87,8 +85,7 @@ ends-back q e w c z r i =
     let k : Ends (part (decision q e) w) c = ends-part q e w c z r i in
     record {
       total = k .total;
-      going = going-part (decision q e) w (0 ∷ c) (k .total) (ready w r) (size q e z)
-          (k .going);
+      going = going-part (decision q e) w (0 ∷ c) (k .total) (ready w r) (size q e z) (k .going);
     }
 
 sees-first : (c : List ℕ) → Ends start c → Sees (opened c) start (0 ∷ c)

@@ -1,6 +1,5 @@
 -- Demand 2's theorems on bands as bytes: what is written is read back, no two bands of one size have one code, and so
--- what a read answers is
--- determined. Assumes nothing.
+-- what a read answers is determined. Assumes nothing.
 use mathlib.Core.Path.{_≡_, refl, sym, ap, ap₂, _∙_}
 use Prim.Native.Nat.{ℕ, zero, suc, _+_, _-_, _*_, _/_, _%_, _^_, _≤_, _<_, min}
 use native.Mathlib.Nat.{suc-mul, mul-le-mul-right, div-one, div-div-eq-div-mul, pow-suc, mod-lt, div-add-mod'}

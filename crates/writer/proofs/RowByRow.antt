@@ -173,8 +173,7 @@ module _ (width rows : ℕ) (last band t₀ out₀ above t : List ℕ) (c : Code
           length = n₁ - 1;
           shifts = c .interval .count;
           table = record { entries = t };
-          last =
-              row;
+          last = row;
         } ≡ wroteAnswer W table last out₀) × (out₁ ≡ wroteOut W out₀)
     unfolding wroteAnswer wroteOut
     with-room h table row r =
@@ -183,8 +182,7 @@ module _ (width rows : ℕ) (last band t₀ out₀ above t : List ℕ) (c : Code
             room = true;
             length = end-length i;
             shifts = sym end-shifts i;
-            table =
-                record { entries = sym end-table i };
+            table = record { entries = sym end-table i };
             last = last-is r i;
           }),
           rw k (end-stored ∙ stores-fit out₀ all (subst (λ (x : ℕ). x ≤ length out₀) (end-length ∙ ap length end-code)
@@ -224,8 +222,8 @@ module _ (width : ℕ) (band : List ℕ) (bytes′ : ℕ) (is : bytes′ ≡ row
 
   pub row-before : (y from : ℕ) → 1 ≤ y → from ≡ y * bytes′ → take (from - (from - bytes′)) (drop (from - bytes′) band)
       ≡ rowAt width band (y - 1)
-  row-before y from h e = part-at (from - (from - bytes′)) (from - bytes′) (y - 1) (omega (arith, split y h))
-      (omega (arith, split y h))
+  row-before y from h e =
+      part-at (from - (from - bytes′)) (from - bytes′) (y - 1) (omega (arith, split y h)) (omega (arith, split y h))
 
   pub rows-fit : (rows y : ℕ) → y < rows → rows ≤ maxRows → width ≤ maxWidth → length band ≡ rows * rowBytes width
       → (y * bytes′ + bytes′ ≤ length band) × (length band ≤ maxBand)
@@ -256,8 +254,7 @@ sizes width y bytes′ len is w h k l =
       inside = omega arith;
       least = omega (arith, mul-le-mul-right bytes′ h);
       few = omega arith;
-      narrow =
-          omega arith;
+      narrow = omega arith;
     }
 
 -- a part of that many bytes is wide enough

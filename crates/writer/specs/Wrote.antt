@@ -18,8 +18,7 @@ wroteAnswer w table last out =
       length = length (w .code);
       shifts = w .shifts;
       table = record { entries = w .table };
-      last =
-          w .last;
+      last = w .last;
     })
     (record { room = false; length = 0; shifts = 0; table = table; last = last })
 

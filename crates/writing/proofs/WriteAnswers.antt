@@ -34,8 +34,7 @@ withRoom w =
       length = length (w .code);
       shifts = w .shifts;
       table = record { entries = w .table };
-      last =
-          w .last;
+      last = w .last;
     }
 
 abbrev withoutRoom : Table → List ℕ → Wrote

@@ -26,5 +26,5 @@ returns-2 c =
     )
 
 pub reserved-place-spec : {M : Type 1} → statement M
-reserved-place-spec = tie.close (tie.spec (λ c κs. search needs) (λ c κs. search needs) returns (λ c κs. search needs)
-    returns-2)
+reserved-place-spec =
+    tie.close (tie.spec (λ c κs. search needs) (λ c κs. search needs) returns (λ c κs. search needs) returns-2)

@@ -1,6 +1,5 @@
 -- `counter::siftpebble_empty` meets its contract: a walk of its MIR, by hand. The arrays are lent in place for a
--- lifetime that is made for the call,
--- and the book that comes back is stored. Assumes nothing.
+-- lifetime that is made for the call, and the book that comes back is stored. Assumes nothing.
 use mathlib.Core.Path.{_≡_, refl, ap, subst}
 use Prim.Native.Nat.{ℕ, _+_}
 use mathlib.Core.List.{[], _∷_, List}

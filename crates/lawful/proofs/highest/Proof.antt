@@ -15,8 +15,8 @@ abbrev μ-loop : tie.MeasureT-loop
 μ-loop xs top₀ i₀ top i = length xs - i
 
 loop-again : tie.Need-loop-again Inv-loop μ-loop
-loop-again c = highest-next (c .before .before .before .loop .inv) (c .higher .result) (omega arith)
-    (c .higher .ensures)
+loop-again c =
+    highest-next (c .before .before .before .loop .inv) (c .higher .result) (omega arith) (c .higher .ensures)
 
 returns : tie.Need-returns Inv-loop μ-loop
 returns c = highest-end (c .before .loop .inv) (omega arith)

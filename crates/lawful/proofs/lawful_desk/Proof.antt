@@ -21,8 +21,7 @@ returns c =
     let w : Whole p = record {
       pages = c .before .pages-right .ensures .1;
       places = c .places-right .ensures .1;
-      arrays = c .before .before .before
-          .before .pre;
+      arrays = c .before .before .before .before .pre;
     } in (
       ap₂ (λ (x y : Bool). x && y)
           (c .before .pages-right .ensures .0 ∙ ap (λ (z : List PlaceLine). each (pageRight z) (deskOf p .pages))

@@ -17,8 +17,8 @@ use Rattle.lawful.proofs.places_right.Statement.{statement}
 use Rattle.lawful.proofs.places_right.Tie as tie
 
 abbrev Inv-loop : tie.InvT-loop
-Inv-loop pages learned places i₀ i = Left (placeRight pages) (each (placeRight pages) (placesOf places learned))
-    (placesOf places learned) maxPlaces i
+Inv-loop pages learned places i₀ i =
+    Left (placeRight pages) (each (placeRight pages) (placesOf places learned)) (placesOf places learned) maxPlaces i
 
 abbrev μ-loop : tie.MeasureT-loop
 μ-loop pages learned places i₀ i = maxPlaces - i

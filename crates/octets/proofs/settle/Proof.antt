@@ -19,8 +19,8 @@ abbrev first : tie.After-power2 → tie.After-byte-out
 first c = c .before .before .before .before
 
 -- ---- the bytes, at the powers of two
-out : (c : tie.After-byte-out) → let a = begin c .args in
-    (k : ℕ) → a .next .low ≡ k * 2 ^ a .j → Out (a .held) k (2 ^ a .j) (c .byte-out .result)
+out : (c : tie.After-byte-out) → let a =
+    begin c .args in (k : ℕ) → a .next .low ≡ k * 2 ^ a .j → Out (a .held) k (2 ^ a .j) (c .byte-out .result)
 out c = rw (c .before .power .ensures) at (c .byte-out .ensures .1)
 
 short : (c : tie.After-byte-out) → c .byte-out .result .low < 131072 * 2 ^ begin c .args .j

@@ -36,8 +36,8 @@ abbrev turn : tie.After-put-row-arg Inv-loop μ-loop → tie.In-loop Inv-loop μ
 turn c = c .before .before .before .before .before
 
 -- ---- what is known in a turn
-room : (c : tie.In-loop Inv-loop μ-loop) → let s = sized (c .before) in let n = s .row-bytes .result in
-    c .before .loop .y * n + n ≤ length (begin s .args .out .now)
+room : (c : tie.In-loop Inv-loop μ-loop) → let s =
+    sized (c .before) in let n = s .row-bytes .result in c .before .loop .y * n + n ≤ length (begin s .args .out .now)
 room c =
     let s = sized (c .before) in
     let a = begin s .args in

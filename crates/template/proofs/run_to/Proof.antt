@@ -22,8 +22,7 @@ returns c =
       record {
         within = omega arith;
         white = w .1;
-        under = under-part _ _ _ _ _ (omega arith) (omega arith)
-            (u .2);
+        under = under-part _ _ _ _ _ (omega arith) (omega arith) (u .2);
       },
     )
 

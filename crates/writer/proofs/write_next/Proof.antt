@@ -19,8 +19,8 @@ abbrev sized : tie.After-write-row-arg → tie.After-row-bytes
 sized c = c .before .before .before
 
 -- ---- both rows lie in the band
-inside : (c : tie.After-row-bytes) → let a = begin c .args in
-    Sizes (a .y) (c .row-bytes .result) (length (a .pels .now))
+inside : (c : tie.After-row-bytes) → let a =
+    begin c .args in Sizes (a .y) (c .row-bytes .result) (length (a .pels .now))
 inside c =
     let a = begin c .args in
     sizes (a .width) (a .y) (c .row-bytes .result) (length (a .pels .now)) (c .row-bytes .ensures)

@@ -29,8 +29,8 @@ abbrev turn : tie.After-more Inv-loop μ-loop → tie.At-loop Inv-loop μ-loop
 turn c = c .before .before .before
 
 -- ---- how far a byte more reaches
-farther : (c : tie.After-more Inv-loop μ-loop) → let v = turn c .loop .v in
-    c .more .result .look ≡ v .look + bits (v .last)
+farther : (c : tie.After-more Inv-loop μ-loop) → let v =
+    turn c .loop .v in c .more .result .look ≡ v .look + bits (v .last)
 farther c = ap (λ (s : Sight). s .look) (c .more .ensures .0 0)
 
 -- ---- the answers

@@ -15,8 +15,8 @@ begin c = c .before .before .before .before
 few : (c : tie.After-power) → let n = c .before .bits-after .result in (7 ≤ n) × (n ≤ 8) × (c .power .result ≤ 256)
 few c = power-small _ _ _ (c .before .bits-after .ensures) (c .power .ensures)
 
-small : (c : tie.After-power) → let f = c .before .before .fetch .result in
-    begin c .args .self .x * c .power .result + f .byte ≤ 4294967295 * 256 + 255
+small : (c : tie.After-power) → let f =
+    c .before .before .fetch .result in begin c .args .self .x * c .power .result + f .byte ≤ 4294967295 * 256 + 255
 small c =
     let f = c .before .before .fetch in
     product-small (begin c .args .self .x) (c .power .result) (f .result .byte) 4294967295 (omega arith) (few c .2)
