@@ -33,7 +33,6 @@ use denote.RattleType.{RattleType, Denots}
 use denote.Steps.{peeks, owned, nothing}
 use denote.Struct.Steps.{spelt}
 use denote.Struct.Struct.{Struct}
-use denote.Struct.Field.{rows}
 use denote.Struct.Members.{Member, rowsOf, partsAt}
 use denote.Struct.Parts.{shapeOf, PartsBack, struct-parts}
 use denote.Struct.Laws as LL
@@ -84,9 +83,6 @@ members =
     ∷ record { row = Rows; ty = rowsTy }
     ∷ record { row = Learned; ty = learnedTy }
     ∷ []
-
-rows-are : rowsOf members ≡ rows (T.the-type .parts)
-rows-are = refl
 
 -- the desk has as many bytes as its layout says
 pub desk-bytes : size T′.mir ≡ deskBytes

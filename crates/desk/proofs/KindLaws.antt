@@ -1,6 +1,6 @@
 -- What a call of each kind does: one law, with a clause for each call. Assumes nothing.
 use mathlib.Core.Path.{_≡_, refl}
-use mathlib.Core.Bool.{true, not}
+use mathlib.Core.Bool.{true}
 use mathlib.Core.Option.{Option, none}
 use Rattle.ground.proofs.Bools.{not-true}
 use Rattle.ground.specs.Options.{given}

@@ -13,8 +13,7 @@ use Rattle.ground.proofs.Tests.{by-cond, neqb→ne}
 use Rattle.octets.specs.Unit.{unit}
 use Rattle.octets.proofs.Unit.{unit-pred, unit-zero, unit-pos}
 use Rattle.interval.specs.declared.Interval.{Interval}
-use Rattle.interval.specs.Interval.{whole}
-use Rattle.octets.specs.Octets.{Registers, bits, carried, byte, due, double, part, pad, pads, lastByte, cover, bytes}
+use Rattle.octets.specs.Octets.{Registers, bits, carried, byte, double, pad, pads, lastByte, cover, bytes}
 use Rattle.octets.proofs.Fit.{upper, lower, Byte, made, byte-until, byte-few, byte-scale}
 use Rattle.octets.specs.Fit.{Fit, Rest}
 use Rattle.octets.proofs.Ending.{Filled, filled, fit-pad, rest-last}

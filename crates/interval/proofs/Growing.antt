@@ -1,13 +1,12 @@
 -- The doublings, all of them at once, and how many they are. Assumes nothing.
-use mathlib.Core.Path.{_≡_, refl, sym, ap, _∙_}
-use mathlib.Core.Bool.{Bool, true, false, cond}
+use mathlib.Core.Path.{_≡_, sym, _∙_}
+use mathlib.Core.Bool.{Bool, true, false}
 use Prim.Native.Nat.{ℕ, zero, suc, _+_, _*_, _^_, _≤_, _<_}
 use native.Mathlib.Nat.{mul-one, add-zero}
 use native.Mathlib.Omega.{arith}
 use lib.Dec.{ltb}
-use borrow.Author.Tests.{lt-ltb}
 use Rattle.limits.specs.Limits.{maxShifts}
-use Rattle.ground.proofs.Tests.{if-ge, by-cond₂, by-cond}
+use Rattle.ground.proofs.Tests.{by-cond₂, by-cond}
 use Rattle.interval.specs.declared.Interval.{Interval}
 use Rattle.interval.specs.Interval.{decision, partOf, doubled, grown, doublings}
 use Rattle.ground.proofs.Powers.{double-first}
@@ -41,23 +40,6 @@ grown-jumped (suc n) i =
     by-cond₂ (λ (v : Interval) (k : ℕ). v ≡ jumped k i) (ltb (i .width) 4096) (grown n (doubled i)) i
     (suc (doublings n (2 * i .width))) 0
     (λ t. grown-jumped n (doubled i) ∙ jumped-more (doublings n (2 * i .width)) i) (λ t. jumped-none i)
-
--- none where the width is 1000 hex or more
-doublings-none : (n a : ℕ) → 4096 ≤ a → doublings n a ≡ 0
-unfolding doublings
-doublings-none zero a h = refl
-doublings-none (suc n) a h = if-ge a 4096 (suc (doublings n (2 * a))) 0 h
-
--- there is a doubling exactly where the width is below 1000 hex
-doublings-some : (n a : ℕ) → ltb 0 (doublings (suc n) a) ≡ ltb a 4096
-unfolding doublings
-doublings-some n a =
-    by-cond₂ (λ (k : ℕ) (b : Bool). ltb 0 k ≡ b) (ltb a 4096) (suc (doublings n (2 * a))) 0 true false
-    (λ t. lt-ltb 0 (suc (doublings n (2 * a))) (omega arith)) (λ t. refl) ∙ whole-cond (ltb a 4096)
-  where
-    whole-cond : (b : Bool) → cond b true false ≡ b
-    whole-cond true = refl
-    whole-cond false = refl
 
 pub doublings-few : (n a : ℕ) → doublings n a ≤ n
 unfolding doublings

@@ -12,7 +12,6 @@ use Rattle.estimate.specs.Estimate.{rowOf}
 use Rattle.octets.specs.declared.Coder.{Coder}
 use Rattle.octets.specs.Runs.{stillBy}
 use Rattle.octets.proofs.Runs.{still-more, still-none, in-steps}
-use Rattle.exact.specs.Sight.{above}
 use Rattle.template.specs.Pels.{pelsTo, context}
 use Rattle.template.specs.declared.Window.{Window}
 use Rattle.template.proofs.Sliding.{slid-context}

@@ -13,9 +13,6 @@ use lib.Pow.{pow-pos, pow-mono, pow-add, shl-exact, shr-shr, high, low, field, m
 use Rattle.template.specs.Pels.{pelAt}
 use Rattle.template.specs.Words.{Word}
 
-word-none : (row : List ℕ) (k : ℕ) → Word row k 0 0
-word-none row k = record { small = pow-pos 0; pels = λ i h. absurd (omega arith) }
-
 -- the lowest bit of what remains of some bits
 bit-of : (n i : ℕ) → n % 2 ^ suc i % 2 ≡ n % 2
 bit-of n i = ap (λ (j : ℕ). n % 2 ^ j % 2) one ∙ mod-mod-pow n i 1

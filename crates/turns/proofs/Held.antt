@@ -9,7 +9,6 @@ use Rattle.ground.specs.Options.{given}
 use Rattle.turns.specs.Service.{keys, Entry, calls, Service, Keys}
 use Rattle.turns.proofs.Office.{Cell, accept, Office, cell, service}
 use Rattle.turns.proofs.CellDesk.{hasPage, hasPlace, Desk, store, noPage, noPlace, run, after}
-use Rattle.turns.specs.Serial.{page}
 use Rattle.turns.proofs.Base.{placed-page, put-self, calls-append}
 use Rattle.turns.proofs.Steps.{done, run-accepts, after-accepts, store-again, page-open, page-below, place-held}
 use Rattle.turns.proofs.Steps.{place-by}

@@ -15,7 +15,6 @@ use Rattle.turns.specs.Base.{one}
 use Rattle.turns.proofs.CellDesk.{hasPage, hasPlace, Desk, Outcome, store, noPage, noPlace, admit, settle, step}
 use Rattle.turns.proofs.CellDesk.{run}
 use Rattle.turns.proofs.CellDesk.{after}
-use Rattle.turns.specs.Serial.{page}
 use Rattle.turns.proofs.Base.{one-le, placed-page, put-self, put-put}
 
 num-again : (a q p : ℕ) → q ≤ 1 → a + 1 - q + p - 1 ≡ a + p - q

@@ -10,7 +10,6 @@ use Rattle.turns.specs.Service.{keys, Service, Keys}
 use Rattle.turns.proofs.Office.{Cell, Office, service}
 use Rattle.turns.specs.Base.{one}
 use Rattle.turns.proofs.CellDesk.{hasPlace, Desk, store, noPlace}
-use Rattle.turns.specs.Serial.{page}
 use Rattle.turns.proofs.Base.{onlyReserved, placed-sum, room-below, put-each, has, relist, has-one}
 use Rattle.turns.proofs.Base.{relist-length, relist-self, relist-other}
 
