@@ -18,7 +18,7 @@ use Rattle.band.specs.Band.{qWriter, qPage, written}
 use Rattle.band.specs.Decisions.{decisions, opened, decided}
 
 module _ (width : ℕ) where
-  all-sized : (ps : List ℕ) (s : Stage (qPage width) qWriter) → AllSized ((decisions width) s ps)
+  all-sized : (ps : List ℕ) (s : Stage (qPage width) qWriter) → AllSized (decisions width s ps)
   unfolding decisions size
   all-sized [] s = tt
   all-sized (p ∷ ps) s = (
@@ -28,7 +28,7 @@ module _ (width : ℕ) where
   )
 
   run-is : (ps : List ℕ) (s : Stage (qPage width) qWriter) → after (qPage width) qWriter s ps .writer ≡ run
-      ((decisions width) s ps) (s .writer)
+      (decisions width s ps) (s .writer)
   unfolding decisions run after
   run-is [] s = refl
   run-is (p ∷ ps) s = run-is ps (step (qPage width) qWriter s p)

@@ -90,21 +90,21 @@ module _ (A : Model) where
 
     reads : (ps : List ℕ) (s : Stage A W) (r : R .State) (c : List ℕ) → AllPels ps → K .Ready (s .writer)
         → K .Ends (after A W s ps .writer) c → K .Beside r (s .writer) c
-        → (readPels A) R (length ps) (s .model) r ≡ ps
+        → readPels A R (length ps) (s .model) r ≡ ps
     unfolding after readPels
     reads [] s r c a f i g = refl
     reads (p ∷ ps) s r c a f i g =
         let f₁ : K .Ready (step A W s p .writer) = K .ready-put (A .size (s .model)) (expects s p) (s .writer)
         (sized (s .model)) f in
         let t : Told p s r c = tells p s r c (a .0) f (ends-before ps (step A W s p) c f₁ i) g in
-        ap₂ (λ (y : ℕ) (n : A .State). y ∷ (readPels A) R (length ps) n
+        ap₂ (λ (y : ℕ) (n : A .State). y ∷ readPels A R (length ps) n
         (R .take (A .size (s .model)) (R .ask (A .size (s .model)) r) r)) (t .pel) (t .model)
         ∙ ap (λ (l : List ℕ). p ∷ l)
         (reads ps (step A W s p) (R .take (A .size (s .model)) (R .ask (A .size (s .model)) r) r) c (a .1) f₁ i
         (t .beside))
 
     -- what a band was written as is read as that band
-    pub read-band : (m : A .State) (ps : List ℕ) → AllPels ps → (readPels A) R (length ps) m
+    pub read-band : (m : A .State) (ps : List ℕ) → AllPels ps → readPels A R (length ps) m
         (R .start (bandCode A W m ps)) ≡ ps
     read-band m ps a =
         let c : List ℕ = bandCode A W m ps in
@@ -117,10 +117,10 @@ module _ (A : Model) where
     pub no-two-bands : (m : A .State) (ps qs : List ℕ) → AllPels ps → AllPels qs → length ps ≡ length qs
         → bandCode A W m ps ≡ bandCode A W m qs → ps ≡ qs
     no-two-bands m ps qs a b l e =
-        sym (read-band m ps a) ∙ ap₂ (λ (n : ℕ) (c : List ℕ). (readPels A) R n m (R .start c)) l e ∙ read-band m qs b
+        sym (read-band m ps a) ∙ ap₂ (λ (n : ℕ) (c : List ℕ). readPels A R n m (R .start c)) l e ∙ read-band m qs b
 
     -- where some band was written as c, the band that is read was
     pub written-read : (m : A .State) (n : ℕ) (c ps : List ℕ) → AllPels ps → length ps ≡ n → bandCode A W m ps ≡ c
-        → (readPels A) R n m (R .start c) ≡ ps
+        → readPels A R n m (R .start c) ≡ ps
     written-read m n c ps a l e =
-        ap₂ (λ (k : ℕ) (d : List ℕ). (readPels A) R k m (R .start d)) (sym l) (sym e) ∙ read-band m ps a
+        ap₂ (λ (k : ℕ) (d : List ℕ). readPels A R k m (R .start d)) (sym l) (sym e) ∙ read-band m ps a

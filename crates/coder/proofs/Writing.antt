@@ -6,10 +6,10 @@ use Rattle.coder.specs.Writing.{Writer, Model, Stage, step, after}
 
 module _ (A : Model) (W : Writer) where
   -- one list of pels after another
-  pub after-append : (ps qs : List ℕ) (s : Stage A W) → (after A W) s (ps ++ qs) ≡ (after A W) ((after A W) s ps) qs
+  pub after-append : (ps qs : List ℕ) (s : Stage A W) → after A W s (ps ++ qs) ≡ after A W (after A W s ps) qs
   unfolding after
   after-append [] qs s = refl
-  after-append (p ∷ ps) qs s = after-append ps qs ((step A W) s p)
+  after-append (p ∷ ps) qs s = after-append ps qs (step A W s p)
 
 -- a list of pels: each is 0 or 1
 abbrev pub AllPels : List ℕ → Type 0

@@ -80,7 +80,7 @@ module _ (d : Desk) (ask : Ask) (code out : List ℕ) where
         (given found)) refl
 
     -- a read that answers 10 passes its other tests, and no band of that size would have been written so
-    pub damaged : r .answer .number ≡ 10 → ((otherwise d ask code out) ≡ 0) × (Unwritten d ask code out)
+    pub damaged : r .answer .number ≡ 10 → (otherwise d ask code out ≡ 0) × Unwritten d ask code out
     unfolding foundIn
     damaged e =
         let t = is-ten (otherwise d ask code out) (not (given found)) (not-without 10 _ (λ z. absurd (omega arith)))
@@ -92,7 +92,7 @@ module _ (d : Desk) (ask : Ask) (code out : List ℕ) where
         )
 
     -- a read that passes its other tests answers 10 where no band of that size would have been written so
-    pub only-then : (otherwise d ask code out) ≡ 0 → (Unwritten d ask code out) → r .answer .number ≡ 10
+    pub only-then : otherwise d ask code out ≡ 0 → Unwritten d ask code out → r .answer .number ≡ 10
     unfolding foundIn
     only-then e u =
         let f : found ≡ none

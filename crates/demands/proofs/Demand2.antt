@@ -66,7 +66,7 @@ module _ (d : Desk) (ask : Ask) (pels out : List ℕ) (r : Outcome) (after : Lis
   page-is = ap (λ (o : Option Page). orElse o noPage) f
 
   -- every accepted write gives that
-  pub wrote : (Wrote d ask pels out r after a z p f)
+  pub wrote : Wrote d ask pels out r after a z p f
   unfolding number tests effect stand hasRoom
   wrote =
       let s : Stand = stand d (ask .key) in
@@ -97,7 +97,7 @@ module _ (d : Desk) (ask : Ask) (pels out : List ℕ) (r : Outcome) (after : Lis
             ∙ ap (λ (q : Page). some (servedPage q (bandOf q (ask .rows) pels))) page-is;
       }
 
-  code-is : (code d ask pels out r after a z p f) ≡ bandOf p (ask .rows) pels .code
+  code-is : code d ask pels out r after a z p f ≡ bandOf p (ask .rows) pels .code
   code-is = ap₂ front (wrote .length) (wrote .code) ∙ front-again (bandOf p (ask .rows) pels .code) out
 
   module _ (octets : (i : ℕ) → getD pels i 0 ≤ 255) (e : Desk) (ask′ : Ask) (out′ : List ℕ) (q : Page)
@@ -156,7 +156,7 @@ module _ (d : Desk) (ask : Ask) (pels out : List ℕ) (r : Outcome) (after : Lis
         ∙ (rw (law, known, within, long, eq-eqb (q .state) 2 way, roomy, found))
 
     -- Read from that same state, they give the pels back.
-    pub read-back : (ReadBack d ask pels out r after a z p f octets e ask′ out′ q g same law rows way room r′ after′ b)
+    pub read-back : ReadBack d ask pels out r after a z p f octets e ask′ out′ q g same law rows way room r′ after′ b
     unfolding effect servedPage
     read-back =
         let w : Written = bandOf q (ask′ .rows) pels in

@@ -9,7 +9,7 @@ use Rattle.desk.specs.Tests.{tests}
 
 module _ (finds : Finder) where
   -- each call's tests stand in the table's order
-  pub in-order : (c : Call) (s : Stand) → inOrder ((tests finds) c s) order ≡ true
+  pub in-order : (c : Call) (s : Stand) → inOrder (tests finds c s) order ≡ true
   unfolding tests inOrder from
   in-order (opens ask) s = refl
   in-order (writes ask pels out) s = refl

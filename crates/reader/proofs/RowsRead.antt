@@ -37,7 +37,7 @@ use Rattle.reader.specs.Reads.{BandRead, begun}
 module _ (width : ℕ) (last code t₀ out₀ : List ℕ) where
   pub reads-start : (r : Progress) → lift (r .coder) [] ≡ start → r .table .entries ≡ t₀ → LawfulTable t₀ → r .at ≡ 0
       → r .good ≡ true → sightOf (r .view) 4096 code ≡ opened code
-      → r .view .at ≤ length code → r .view .look ≤ 7 → r .view .x < 2 ^ 32 → (BandRead width last code t₀ out₀)
+      → r .view .at ≤ length code → r .view .look ≤ 7 → r .view .x < 2 ^ 32 → BandRead width last code t₀ out₀
       last r out₀ 0
   unfolding bandTo after matches bandPadded
   reads-start r e t l a g v w n s =
@@ -71,7 +71,7 @@ module _ (width : ℕ) (last code t₀ out₀ : List ℕ) where
       none h = omega arith
 
   -- a row more
-  module _ (above : List ℕ) (s : Progress) (out : List ℕ) (y : ℕ) (b : (BandRead width last code t₀ out₀) above s out y)
+  module _ (above : List ℕ) (s : Progress) (out : List ℕ) (y : ℕ) (b : BandRead width last code t₀ out₀ above s out y)
       (some : 1 ≤ width) (narrow : width ≤ maxWidth) (l : Line) (f : LineRead width (pelsTo above width) code s l) where
     abbrev bytes : ℕ
     bytes = rowBytes width
@@ -144,7 +144,7 @@ module _ (width : ℕ) (last code t₀ out₀ : List ℕ) where
         }
 
     pub reads-again : (out′ : List ℕ) → out′ ≡ paste out (y * bytes) (l .row) bytes
-        → (BandRead width last code t₀ out₀) (l .row) (l .reading) out′ (suc y)
+        → BandRead width last code t₀ out₀ (l .row) (l .reading) out′ (suc y)
     reads-again out′ o =
         record {
           band = b .band ++ row;

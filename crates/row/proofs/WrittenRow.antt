@@ -104,12 +104,12 @@ pelled-after c e b v xs k =
 
 module _ (width : ℕ) where
   -- within the row no row is full
-  pub page-within : (table above this : List ℕ) → length this < width → (pageOf width) table above this
+  pub page-within : (table above this : List ℕ) → length this < width → pageOf width table above this
       ≡ record { table = table; above = above; this = this }
   unfolding placed
   page-within table above this h = if-ne (length this) width _ _ (λ e. omega arith)
 
-  pub page-full : (table above this : List ℕ) → length this ≡ width → (pageOf width) table above this
+  pub page-full : (table above this : List ℕ) → length this ≡ width → pageOf width table above this
       ≡ record { table = table; above = this; this = [] }
   unfolding placed
   page-full table above this h = if-eq (length this) width _ _ h
@@ -134,20 +134,20 @@ module _ (width : ℕ) where
         go false n k = sym (set-getD table cx 0) ∙ ap (set table cx) (sym k)
 
     pub step-within : length this < width → Pelled c e b v
-        → step (qPage width) qWriter ((stageOf width) ((pageOf width) table above this) (lift c xs)) p
-        ≡ (stageOf width) ((pageOf width) (set table cx (v .entry)) above (this ++ (p ∷ [])))
+        → step (qPage width) qWriter (stageOf width (pageOf width table above this) (lift c xs)) p
+        ≡ stageOf width (pageOf width (set table cx (v .entry)) above (this ++ (p ∷ [])))
         (lift (v .coder) (xs ++ bytesOf v))
     unfolding size sense entryAt contextOf move taught
     step-within h k =
-        ap (λ (m : Page). step (qPage width) qWriter ((stageOf width) m (lift c xs)) p) (page-within table above this h)
-        ∙ ap₂ (λ (t : List ℕ) (w : Registers). (stageOf width) ((pageOf width) t above (this ++ (p ∷ []))) w)
+        ap (λ (m : Page). step (qPage width) qWriter (stageOf width m (lift c xs)) p) (page-within table above this h)
+        ∙ ap₂ (λ (t : List ℕ) (w : Registers). stageOf width (pageOf width t above (this ++ (p ∷ []))) w)
         (taught-set (k .entry)) (pelled-after c e b v xs k)
 
   module _ (above row t₀ : List ℕ) (c₀ : Coder) (out₀ : List ℕ) (at₀ : ℕ) where
     pub record RowAt (t : List ℕ) (c : Coder) (w : Window) (out : List ℕ) (at x : ℕ) : Type 0 where
       pub settled : List ℕ
-      pub stage : (through width) (begun width above row t₀ c₀ out₀ at₀) (pelsTo row x) ≡ (stageOf width)
-          ((pageOf width) t above (pelsTo row x)) (lift c settled)
+      pub stage : through width (begun width above row t₀ c₀ out₀ at₀) (pelsTo row x) ≡ stageOf width
+          (pageOf width t above (pelsTo row x)) (lift c settled)
       pub stored : out ≡ stores out₀ at₀ settled
       pub place : at ≡ at₀ + length settled
       pub few : length settled ≤ 2 * x
@@ -195,8 +195,8 @@ module _ (width : ℕ) where
       this = pelsTo row x
 
       again-stage : (cx p : ℕ) → cx ≡ context above this x → Pelled c (getD t cx 0) (eqb p (getD t cx 0 % 2)) v
-          → (through width) (begun width above row t₀ c₀ out₀ at₀) (this ++ (p ∷ [])) ≡ (stageOf width)
-          ((pageOf width) (set t cx (v .entry)) above (this ++ (p ∷ [])))
+          → through width (begun width above row t₀ c₀ out₀ at₀) (this ++ (p ∷ [])) ≡ stageOf width
+          (pageOf width (set t cx (v .entry)) above (this ++ (p ∷ [])))
           (lift (v .coder) (r .settled ++ bytesOf v))
       unfolding after
       again-stage cx p ec k =
@@ -206,7 +206,7 @@ module _ (width : ℕ) where
           ∙ ap (λ (s : Stage (qPage width) qWriter). step (qPage width) qWriter s p) (r .stage)
           ∙ step-within t above this c (r .settled) p v (omega arith)
           (subst (λ (z : ℕ). Pelled c (getD t z 0) (eqb p (getD t z 0 % 2)) v) ec′ k)
-          ∙ ap (λ (z : ℕ). (stageOf width) ((pageOf width) (set t z (v .entry)) above (this ++ (p ∷ [])))
+          ∙ ap (λ (z : ℕ). stageOf width (pageOf width (set t z (v .entry)) above (this ++ (p ∷ [])))
           (lift (v .coder) (r .settled ++ bytesOf v))) (sym ec′)
 
       pub row-again : (cx p : ℕ) (t′ : List ℕ) (w′ : Window) (out′ : List ℕ) (at′ : ℕ) → t′ ≡ set t cx (v .entry)
@@ -223,8 +223,8 @@ module _ (width : ℕ) where
           subst (λ (z : List ℕ). RowAt z (v .coder) w′ out′ at′ (suc x)) (sym et)
           (record {
             settled = r .settled ++ bytesOf v;
-            stage = subst (λ (z : ℕ). (through width) (begun width above row t₀ c₀ out₀ at₀) (this ++ (z ∷ []))
-                ≡ (stageOf width) ((pageOf width) (set t cx (v .entry)) above (this ++ (z ∷ [])))
+            stage = subst (λ (z : ℕ). through width (begun width above row t₀ c₀ out₀ at₀) (this ++ (z ∷ []))
+                ≡ stageOf width (pageOf width (set t cx (v .entry)) above (this ++ (z ∷ [])))
                 (lift (v .coder) (r .settled ++ bytesOf v))) ep (again-stage cx p ec k);
             stored = eo ∙ ap₂ (λ (o : List ℕ) (a : ℕ). stores o a (bytesOf v)) (r .stored) (r .place) ∙ stores-append
                 out₀ at₀ (r .settled) (bytesOf v);
@@ -249,15 +249,15 @@ module _ (width : ℕ) where
     row-length t c w out at x r = ap length (r .stored) ∙ length-stores out₀ at₀ (r .settled)
 
     pub row-done : (t : List ℕ) (c : Coder) (w : Window) (out : List ℕ) (at x : ℕ) → RowAt t c w out at x → x ≡ width
-        → (RowDone width above row t₀ c₀ out₀ at₀) t c out at
+        → RowDone width above row t₀ c₀ out₀ at₀ t c out at
     row-done t c w out at x r e =
-        let s : (through width) (begun width above row t₀ c₀ out₀ at₀) (pelsTo row width) ≡ (stageOf width)
-        ((pageOf width) t above (pelsTo row width)) (lift c (r .settled))
-        = subst (λ (n : ℕ). (through width) (begun width above row t₀ c₀ out₀ at₀) (pelsTo row n) ≡ (stageOf width)
-        ((pageOf width) t above (pelsTo row n)) (lift c (r .settled))) e (r .stage) in
+        let s : through width (begun width above row t₀ c₀ out₀ at₀) (pelsTo row width) ≡ stageOf width
+        (pageOf width t above (pelsTo row width)) (lift c (r .settled))
+        = subst (λ (n : ℕ). through width (begun width above row t₀ c₀ out₀ at₀) (pelsTo row n) ≡ stageOf width
+        (pageOf width t above (pelsTo row n)) (lift c (r .settled))) e (r .stage) in
         record {
           settled = r .settled;
-          stage = s ∙ ap (λ (m : Page). (stageOf width) m (lift c (r .settled))) (page-full t above (pelsTo row width)
+          stage = s ∙ ap (λ (m : Page). stageOf width m (lift c (r .settled))) (page-full t above (pelsTo row width)
               (length-pels row width));
           stored = r .stored;
           place = r .place;

@@ -20,50 +20,50 @@ module _ (S : Service) (k : S .Key) where
   keep-append true e es fs = refl
   keep-append false e es fs = refl
 
-  own-append : (es fs : List (Entry S)) → (own S k) (es ++ fs) ≡ (own S k) es ++ (own S k) fs
+  own-append : (es fs : List (Entry S)) → own S k (es ++ fs) ≡ own S k es ++ own S k fs
   unfolding own
   own-append [] fs = refl
   own-append (e ∷ es) fs = ap (λ l. keep (same (key (e .call)) k && ownKind (kind (e .call))) e l) (own-append es fs)
-      ∙ keep-append (same (key (e .call)) k && ownKind (kind (e .call))) e ((own S k) es) ((own S k) fs)
+      ∙ keep-append (same (key (e .call)) k && ownKind (kind (e .call))) e (own S k es) (own S k fs)
 
   own-in : (e : Entry S) (es : List (Entry S)) → key (e .call) ≡ k → ownKind (kind (e .call)) ≡ true
-      → (own S k) (e ∷ es) ≡ e ∷ (own S k) es
+      → own S k (e ∷ es) ≡ e ∷ own S k es
   unfolding own
   own-in e es q o = rw (q, same-self k, o)
 
-  own-not : (e : Entry S) (es : List (Entry S)) → same (key (e .call)) k ≡ false → (own S k) (e ∷ es) ≡ (own S k) es
+  own-not : (e : Entry S) (es : List (Entry S)) → same (key (e .call)) k ≡ false → own S k (e ∷ es) ≡ own S k es
   unfolding own
   own-not e es q = rw q
 
-  own-table : (e : Entry S) (es : List (Entry S)) → ownKind (kind (e .call)) ≡ false → (own S k) (e ∷ es) ≡ (own S k) es
+  own-table : (e : Entry S) (es : List (Entry S)) → ownKind (kind (e .call)) ≡ false → own S k (e ∷ es) ≡ own S k es
   unfolding own
   own-table e es o = rw o (go (same (key (e .call)) k))
     where
-      go : (b : Bool) → keep (b && false) e ((own S k) es) ≡ (own S k) es
+      go : (b : Bool) → keep (b && false) e (own S k es) ≡ own S k es
       go true = refl
       go false = refl
 
-  own-none : (own S k) [] ≡ []
+  own-none : own S k [] ≡ []
   unfolding own
   own-none = refl
 
   -- what waits under k is k's own, what waits under another is not
   record Fit (w : Waiting S) : Type 0 where
-    self : (own S k) (w k) ≡ w k
-    others : (j : Key) → same j k ≡ false → (own S k) (w j) ≡ []
+    self : own S k (w k) ≡ w k
+    others : (j : Key) → same j k ≡ false → own S k (w j) ≡ []
 
-  fit-own : (w : Waiting S) (j : Key) (l : List (Entry S)) → j ≡ k → (own S k) l ≡ l → Fit w → Fit (put (keys S) j l w)
+  fit-own : (w : Waiting S) (j : Key) (l : List (Entry S)) → j ≡ k → own S k l ≡ l → Fit w → Fit (put (keys S) j l w)
   fit-own w j l q o h = record {
     self = rw (q, same-self k) o;
-    others = λ i n. put-each (keys S) (λ i l. same i k ≡ false → (own S k) l ≡ []) j l w
+    others = λ i n. put-each (keys S) (λ i l. same i k ≡ false → own S k l ≡ []) j l w
         (λ n. no-way (sym (same-self k) ∙ ap (λ (z : Key). same z k) (sym q) ∙ n)) (λ i f. h .others i) i n;
   }
 
-  fit-other : (w : Waiting S) (j : Key) (l : List (Entry S)) → same j k ≡ false → (own S k) l ≡ [] → Fit w
+  fit-other : (w : Waiting S) (j : Key) (l : List (Entry S)) → same j k ≡ false → own S k l ≡ [] → Fit w
       → Fit (put (keys S) j l w)
   fit-other w j l q o h = record {
     self = rw q (h .self);
-    others = λ i n. put-each (keys S) (λ i l. same i k ≡ false → (own S k) l ≡ []) j l w (λ n. o) (λ i f. h .others i)
+    others = λ i n. put-each (keys S) (λ i l. same i k ≡ false → own S k l ≡ []) j l w (λ n. o) (λ i f. h .others i)
         i n;
   }
 
@@ -78,11 +78,11 @@ module _ (S : Service) (k : S .Key) where
   none-cond false l = refl
 
   module _ (e : Entry S) (es : List (Entry S)) (w : Waiting S) (h : Fit w)
-      (ih : (w′ : Waiting S) → Fit w′ → (own S k) (serialFrom S w′ es) ≡ cond (closedIn S k es) (w′ k) [] ++ (own S k)
+      (ih : (w′ : Waiting S) → Fit w′ → own S k (serialFrom S w′ es) ≡ cond (closedIn S k es) (w′ k) [] ++ own S k
       (strike S es)) where
     abbrev Goal : Mark → Kind → Bool → Type 0
-    Goal m κ v = (own S k) (servesAs S m κ w e ++ serialFrom S (waitsAs S m κ w e) es) ≡ cond
-        (fateAs v m κ (closedIn S k es)) (w k) [] ++ (own S k)
+    Goal m κ v = own S k (servesAs S m κ w e ++ serialFrom S (waitsAs S m κ w e) es) ≡ cond
+        (fateAs v m κ (closedIn S k es)) (w k) [] ++ own S k
         (keep (leftAs m κ (closedIn S (key (e .call)) es)) e (strike S es))
 
     -- a call of k
@@ -96,7 +96,7 @@ module _ (S : Service) (k : S .Key) where
         ∙ rw (put-at w (key (e .call)) (e ∷ []) q) (go (closedIn S k es) (closedIn S (key (e .call)) es)
         (ap (λ (j : Key). closedIn S j es) (sym q)))
       where
-        go : (b b′ : Bool) → b ≡ b′ → cond b (e ∷ []) [] ++ (own S k) (strike S es) ≡ (own S k)
+        go : (b b′ : Bool) → b ≡ b′ → cond b (e ∷ []) [] ++ own S k (strike S es) ≡ own S k
             (keep b′ e (strike S es))
         go true true f = sym (own-in e (strike S es) q (ap ownKind p))
         go false false f = refl
@@ -108,58 +108,58 @@ module _ (S : Service) (k : S .Key) where
         ∙ rw (put-at w (key (e .call)) (w (key (e .call)) ++ (e ∷ [])) q)
         (go (closedIn S k es) (closedIn S (key (e .call)) es) (ap (λ (j : Key). closedIn S j es) (sym q)))
       where
-        fits : (own S k) (w (key (e .call)) ++ (e ∷ [])) ≡ w (key (e .call)) ++ (e ∷ [])
-        fits = own-append (w (key (e .call))) (e ∷ []) ∙ ap (λ l. l ++ (own S k) (e ∷ []))
-            (subst (λ (j : Key). (own S k) (w j) ≡ w j) (sym q) (h .self))
+        fits : own S k (w (key (e .call)) ++ (e ∷ [])) ≡ w (key (e .call)) ++ (e ∷ [])
+        fits = own-append (w (key (e .call))) (e ∷ []) ∙ ap (λ l. l ++ own S k (e ∷ []))
+            (subst (λ (j : Key). own S k (w j) ≡ w j) (sym q) (h .self))
             ∙ ap (λ l. w (key (e .call)) ++ l) (own-in e [] q (ap ownKind p))
 
         go : (b b′ : Bool) → b ≡ b′
-            → cond b (w (key (e .call)) ++ (e ∷ [])) [] ++ (own S k) (strike S es) ≡ cond b (w k) [] ++ (own S k)
+            → cond b (w (key (e .call)) ++ (e ∷ [])) [] ++ own S k (strike S es) ≡ cond b (w k) [] ++ own S k
             (keep b′ e (strike S es))
-        go true true f = append-assoc (w (key (e .call))) (e ∷ []) ((own S k) (strike S es))
-            ∙ ap (λ (j : Key). w j ++ (e ∷ (own S k) (strike S es))) q
+        go true true f = append-assoc (w (key (e .call))) (e ∷ []) (own S k (strike S es))
+            ∙ ap (λ (j : Key). w j ++ (e ∷ own S k (strike S es))) q
             ∙ ap (λ l. w k ++ l) (sym (own-in e (strike S es) q (ap ownKind p)))
         go false false f = refl
         go true false f = no-way f
         go false true f = no-way (sym f)
     mine accepted closing p q =
         own-append (w (key (e .call)) ++ (e ∷ [])) (serialFrom S (put (keys S) (key (e .call)) [] w) es)
-        ∙ ap (λ l. l ++ (own S k) (serialFrom S (put (keys S) (key (e .call)) [] w) es))
-        (own-append (w (key (e .call))) (e ∷ []) ∙ ap (λ l. l ++ (own S k) (e ∷ []))
-        (subst (λ (j : Key). (own S k) (w j) ≡ w j) (sym q) (h .self)) ∙ ap
+        ∙ ap (λ l. l ++ own S k (serialFrom S (put (keys S) (key (e .call)) [] w) es))
+        (own-append (w (key (e .call))) (e ∷ []) ∙ ap (λ l. l ++ own S k (e ∷ []))
+        (subst (λ (j : Key). own S k (w j) ≡ w j) (sym q) (h .self)) ∙ ap
         (λ l. w (key (e .call)) ++ l) (own-in e [] q (ap ownKind p)))
         ∙ ap (λ l. (w (key (e .call)) ++ (e ∷ [])) ++ l)
         (ih (put (keys S) (key (e .call)) [] w) (fit-own w (key (e .call)) [] q own-none h) ∙ ap
-        (λ l. cond (closedIn S k es) l [] ++ (own S k) (strike S es)) (put-at w (key (e .call)) [] q)
-        ∙ none-cond (closedIn S k es) ((own S k) (strike S es)))
-        ∙ append-assoc (w (key (e .call))) (e ∷ []) ((own S k) (strike S es))
-        ∙ ap (λ (j : Key). w j ++ (e ∷ (own S k) (strike S es))) q
+        (λ l. cond (closedIn S k es) l [] ++ own S k (strike S es)) (put-at w (key (e .call)) [] q)
+        ∙ none-cond (closedIn S k es) (own S k (strike S es)))
+        ∙ append-assoc (w (key (e .call))) (e ∷ []) (own S k (strike S es))
+        ∙ ap (λ (j : Key). w j ++ (e ∷ own S k (strike S es))) q
         ∙ ap (λ l. w k ++ l) (sym (own-in e (strike S es) q (ap ownKind p)))
     mine accepted abandoning p q =
         ih (put (keys S) (key (e .call)) [] w) (fit-own w (key (e .call)) [] q own-none h)
-        ∙ ap (λ l. cond (closedIn S k es) l [] ++ (own S k) (strike S es)) (put-at w (key (e .call)) [] q)
-        ∙ none-cond (closedIn S k es) ((own S k) (strike S es))
+        ∙ ap (λ l. cond (closedIn S k es) l [] ++ own S k (strike S es)) (put-at w (key (e .call)) [] q)
+        ∙ none-cond (closedIn S k es) (own S k (strike S es))
     mine accepted looking p q = own-table e (serialFrom S w es) (ap ownKind p) ∙ ih w h
         ∙ ap (λ l. cond (closedIn S k es) (w k) [] ++ l) (sym (own-table e (strike S es) (ap ownKind p)))
     mine accepted changing p q = own-table e (serialFrom S w es) (ap ownKind p) ∙ ih w h
         ∙ ap (λ l. cond (closedIn S k es) (w k) [] ++ l) (sym (own-table e (strike S es) (ap ownKind p)))
 
     -- a call of another key
-    left-out : (b : Bool) → same (key (e .call)) k ≡ false → (own S k) (strike S es) ≡ (own S k)
+    left-out : (b : Bool) → same (key (e .call)) k ≡ false → own S k (strike S es) ≡ own S k
         (keep b e (strike S es))
     left-out true n = sym (own-not e (strike S es) n)
     left-out false n = refl
 
-    page-out : same (key (e .call)) k ≡ false → (own S k) (w (key (e .call)) ++ (e ∷ [])) ≡ []
-    page-out n = own-append (w (key (e .call))) (e ∷ []) ∙ ap (λ l. l ++ (own S k) (e ∷ []))
+    page-out : same (key (e .call)) k ≡ false → own S k (w (key (e .call)) ++ (e ∷ [])) ≡ []
+    page-out n = own-append (w (key (e .call))) (e ∷ []) ∙ ap (λ l. l ++ own S k (e ∷ []))
         (h .others (key (e .call)) n) ∙ own-not e [] n ∙ own-none
 
-    after-put : (l : List (Entry S)) (b : Bool) → same (key (e .call)) k ≡ false → (own S k) l ≡ []
-        → (own S k) (serialFrom S (put (keys S) (key (e .call)) l w) es) ≡ cond (closedIn S k es) (w k) [] ++ (own S k)
+    after-put : (l : List (Entry S)) (b : Bool) → same (key (e .call)) k ≡ false → own S k l ≡ []
+        → own S k (serialFrom S (put (keys S) (key (e .call)) l w) es) ≡ cond (closedIn S k es) (w k) [] ++ own S k
         (keep b e (strike S es))
     after-put l b n o =
         ih (put (keys S) (key (e .call)) l w) (fit-other w (key (e .call)) l n o h)
-        ∙ ap (λ z. cond (closedIn S k es) z [] ++ (own S k) (strike S es)) (put-off w (key (e .call)) l n)
+        ∙ ap (λ z. cond (closedIn S k es) z [] ++ own S k (strike S es)) (put-off w (key (e .call)) l n)
         ∙ ap (λ z. cond (closedIn S k es) (w k) [] ++ z) (left-out b n)
 
     theirs : (m : Mark) (κ : Kind) → same (key (e .call)) k ≡ false → Goal m κ false
@@ -170,7 +170,7 @@ module _ (S : Service) (k : S .Key) where
     theirs accepted band n = after-put (w (key (e .call)) ++ (e ∷ [])) (closedIn S (key (e .call)) es) n (page-out n)
     theirs accepted closing n =
         own-append (w (key (e .call)) ++ (e ∷ [])) (serialFrom S (put (keys S) (key (e .call)) [] w) es)
-        ∙ ap (λ l. l ++ (own S k) (serialFrom S (put (keys S) (key (e .call)) [] w) es)) (page-out n) ∙ after-put []
+        ∙ ap (λ l. l ++ own S k (serialFrom S (put (keys S) (key (e .call)) [] w) es)) (page-out n) ∙ after-put []
         true n own-none
     theirs accepted abandoning n = after-put [] false n own-none
     theirs accepted looking n =
@@ -182,14 +182,14 @@ module _ (S : Service) (k : S .Key) where
     either true f = mine (e .mark) (kind (e .call)) refl (same-only (key (e .call)) k f)
     either false f = theirs (e .mark) (kind (e .call)) f
 
-  own-from : (es : List (Entry S)) (w : Waiting S) → Fit w → (own S k) (serialFrom S w es) ≡ cond (closedIn S k es)
-      (w k) [] ++ (own S k) (strike S es)
+  own-from : (es : List (Entry S)) (w : Waiting S) → Fit w → own S k (serialFrom S w es) ≡ cond (closedIn S k es)
+      (w k) [] ++ own S k (strike S es)
   unfolding serialFrom strike closedIn
   own-from [] w h = refl
   own-from (e ∷ es) w h = either e es w h (λ w′ h′. own-from es w′ h′) (same (key (e .call)) k) refl
 
   -- ---- the own calls of k's pages, each in its place
-  pub own-order : (es : List (Entry S)) → (own S k) (serial S es) ≡ (own S k) (strike S es)
+  pub own-order : (es : List (Entry S)) → own S k (serial S es) ≡ own S k (strike S es)
   unfolding serial
   own-order es = own-from es (λ j. []) (record { self = own-none; others = λ j n. own-none })
-      ∙ none-cond (closedIn S k es) ((own S k) (strike S es))
+      ∙ none-cond (closedIn S k es) (own S k (strike S es))

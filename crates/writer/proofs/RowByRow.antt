@@ -50,7 +50,7 @@ module _ (width : ℕ) where
 
   -- ---- rows
   module _ (last band t₀ out₀ : List ℕ) where
-    band-start : (c : Coder) → lift c [] ≡ start → LawfulTable t₀ → (BandAt width last band t₀ out₀) last
+    band-start : (c : Coder) → lift c [] ≡ start → LawfulTable t₀ → BandAt width last band t₀ out₀ last
         t₀ c out₀ 0 0
     unfolding bandTo after stores
     band-start c e l =
@@ -67,7 +67,7 @@ module _ (width : ℕ) where
 
     -- one row more
     module _ (above t : List ℕ) (c : Coder) (out : List ℕ) (at y : ℕ) (row t′ : List ℕ) (c′ : Coder) (out′ : List ℕ)
-        (at′ : ℕ) (b : (BandAt width last band t₀ out₀) above t c out at y)
+        (at′ : ℕ) (b : BandAt width last band t₀ out₀ above t c out at y)
         (some : 1 ≤ width) (e : row ≡ rowAt width band y) (r : RowDone width (pelsTo above width) row t c out at t′ c′
         out′ at′) where
       abbrev under : Page
@@ -98,7 +98,7 @@ module _ (width : ℕ) where
           ∙ ap₂ (λ (s : Stage (qPage width) qWriter) (l : List ℕ). through width s (pelsTo l width)) (b .stage) (sym e)
           ∙ from-band
 
-      band-again : width ≤ maxWidth → (BandAt width last band t₀ out₀) row t′ c′ out′ at′ (suc y)
+      band-again : width ≤ maxWidth → BandAt width last band t₀ out₀ row t′ c′ out′ at′ (suc y)
       band-again k =
           let n : length (b .settled ++ r .settled) ≡ length (b .settled) + length (r .settled) =
           length-append (b .settled) (r .settled) in
