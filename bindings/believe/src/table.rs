@@ -61,7 +61,7 @@ pub const SECTIONS: &[(&str, &[&str])] = &[
     ("Bands worked by hand", &["band/Worked"]),
     ("How much each public call must say", &[
         "parts", "desk/Asked", "counter/src", "counter", "opening", "closing", "tables", "writing", "reading", "store/src",
-        "unique/Search", "unique", "demands/Certain",
+        "unique/Search", "unique/BandOfCode", "unique", "demands/Certain",
     ]),
     ("The three demands", &[
         "demands/Demand1", "demands/Demand2", "demands/Damaged",

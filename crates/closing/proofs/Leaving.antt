@@ -6,7 +6,7 @@ use mathlib.Core.List.{List, []}
 use lib.ListN.{getD, set}
 use Rattle.ground.specs.Options.{orElse}
 use Rattle.estimate.specs.declared.Table.{Table}
-use Rattle.unique.proofs.OneReader.{readBack}
+use Rattle.unique.specs.BandOfCode.{bandOfCode}
 use Rattle.desk.specs.declared.Key.{Key}
 use Rattle.parts.specs.declared.Book.{Book}
 use Rattle.parts.specs.declared.Parts.{Parts}
@@ -49,11 +49,11 @@ one-reserved k lines e = rw e
 
 module _ (d : Desk) (k : Key) where
   -- both are tested alike
-  pub close-number : number readBack d (closes k) ≡ refusal (paged d k true [])
+  pub close-number : number bandOfCode d (closes k) ≡ refusal (paged d k true [])
   unfolding number tests refusal stand
   close-number = refl
 
-  pub abandon-number : number readBack d (abandons k) ≡ refusal (paged d k true [])
+  pub abandon-number : number bandOfCode d (abandons k) ≡ refusal (paged d k true [])
   unfolding number tests refusal stand
   abandon-number = refl
 
@@ -72,7 +72,7 @@ module _ (p : Parts) (w : Whole p) (k : Key) (i : ℕ) (f : pageFound (deskOf p)
       (ap (λ (ls : List PlaceLine). placesOf ls learned) (cleared .places) ∙ q .places)
 
   -- ---- close: an open page of a lawful desk has its place
-  pub close-done : (x : Reply) (place : Found) → lawful (deskOf p) ≡ true → number readBack (deskOf p) (closes k) ≡ 0
+  pub close-done : (x : Reply) (place : Found) → lawful (deskOf p) ≡ true → number bandOfCode (deskOf p) (closes k) ≡ 0
       → place ≡ findBy (placeSought (Used k)) (p .book .places) 0
       → PlacePut (p .book) (p .learned) place (learnedPlace k (record { entries = getD (p .working) i [] }))
       between learned
@@ -96,7 +96,7 @@ module _ (p : Parts) (w : Whole p) (k : Key) (i : ℕ) (f : pageFound (deskOf p)
           noPage .table) (sym f)
 
   -- ---- abandon: a class with a table keeps it; a place that was only reserved is free
-  pub abandon-done : (x : Reply) (place : Found) → number readBack (deskOf p) (abandons k) ≡ 0
+  pub abandon-done : (x : Reply) (place : Found) → number bandOfCode (deskOf p) (abandons k) ≡ 0
       → place ≡ reservedFound k (p .book .places)
       → PlacePut (p .book) (p .learned) place freePlace between learned → x ≡ doneBy 0 0 next
       → Serves p (abandons k) (x .answer) (partsOf (x .book) working rows learned) []

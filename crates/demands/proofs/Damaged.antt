@@ -13,7 +13,8 @@ use Rattle.ground.proofs.Bools.{no-way, both, not-false}
 use Rattle.ground.specs.Options.{given}
 use Rattle.ground.proofs.Options.{none-given}
 use Rattle.band.specs.Band.{Right}
-use Rattle.unique.proofs.OneReader.{readBack, right-found}
+use Rattle.unique.specs.BandOfCode.{bandOfCode}
+use Rattle.unique.proofs.OneReader.{right-found}
 use Rattle.desk.specs.declared.Ask.{Ask}
 use Rattle.desk.specs.Desk.{Page, Desk, Outcome}
 use Rattle.desk.specs.Refusals.{Row, row, refusal}
@@ -76,7 +77,7 @@ module _ (d : Desk) (ask : Ask) (code out : List ℕ) where
     number-is : r .answer .number ≡ lastly (otherwise d ask code out) (not (given found))
     unfolding tests without
     number-is = answers d (reads ask code out) r after a
-        ∙ last-ten (without 10 (tests readBack (reads ask code out) (stand d (ask .key)))) (not
+        ∙ last-ten (without 10 (tests bandOfCode (reads ask code out) (stand d (ask .key)))) (not
         (given found)) refl
 
     -- a read that answers 10 passes its other tests, and no band of that size would have been written so

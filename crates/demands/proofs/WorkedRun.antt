@@ -16,8 +16,9 @@ use Rattle.octets.specs.Octets as octets
 use Rattle.store.specs.Store.{inFront, cleared}
 use Rattle.template.specs.Pels.{pelAt, pelsTo, bandTo, rowPadded, bandPadded, leftOf, rightOf, context}
 use Rattle.band.specs.Band.{written, lastRow, white, hasRoom}
-use Rattle.unique.proofs.Search.{firstOf, before, values, search}
-use Rattle.unique.proofs.OneReader.{sameBytes, writtenSo, readBack, reading}
+use Rattle.unique.specs.Search.{firstOf, before, values, search}
+use Rattle.unique.specs.BandOfCode.{sameBytes, writtenSo, bandOfCode}
+use Rattle.unique.proofs.OneReader.{reading}
 use Rattle.desk.specs.declared.Key.{Key}
 use Rattle.desk.specs.Desk.{Desk}
 use Rattle.desk.specs.declared.Direction.{Direction}
@@ -134,7 +135,7 @@ unfolding seen run after markOf left serial serialFrom servesAs waitsAs number o
     newPage servedPage
     bandOf foundIn changed pagesAfter placesAfter learnedPlace reservedPlace refusal lentAfter all any apart
     noStray lawfulPage
-    lawfulPlace lawful zeroTable unusedPage freePlace emptyDesk findBy readBack writtenSo sameBytes search values
+    lawfulPlace lawful zeroTable unusedPage freePlace emptyDesk findBy bandOfCode writtenSo sameBytes search values
     before firstOf
     written lastRow white hasRoom pelAt pelsTo bandTo rowPadded bandPadded leftOf rightOf context inFront cleared
     bits carried

@@ -5,7 +5,7 @@ use mathlib.Core.List.{List, [], _∷_}
 use Prim.Native.Nat.{ℕ}
 use lib.Dec.{eqb}
 use Rattle.band.specs.Band.{Right}
-use Rattle.unique.proofs.OneReader.{readBack}
+use Rattle.unique.specs.BandOfCode.{bandOfCode}
 use Rattle.desk.specs.declared.Ask.{Ask}
 use Rattle.desk.specs.Desk.{Page, Desk}
 use Rattle.desk.specs.Refusals.{Row, refusal}
@@ -21,7 +21,7 @@ without n (r ∷ rs) = cond (eqb (r .number) n) (without n rs) (r ∷ without n 
 module _ (d : Desk) (ask : Ask) (code out : List ℕ) where
   -- the number of the other tests, 0 where none of them refuses
   abbrev pub otherwise : ℕ
-  otherwise = refusal (without 10 (tests readBack (reads ask code out) (stand d (ask .key))))
+  otherwise = refusal (without 10 (tests bandOfCode (reads ask code out) (stand d (ask .key))))
 
   -- no band of that size would have been written so, from the state of the open page
   abbrev pub Unwritten : Type 0

@@ -29,10 +29,10 @@ all-set p (x ∷ s) zero a h k = and-true (p a) (all p s) k (both (p x) (all p s
 all-set p (x ∷ s) (suc i) a h k =
     and-true (p x) (all p (set s i a)) (both (p x) (all p s) h .0) (all-set p s i a (both (p x) (all p s) h .1) k)
 
-abbrev lawfulEntry : ℕ → Bool
-lawfulEntry e = leb (indexOf e) 29
+abbrev lowIndex : ℕ → Bool
+lowIndex e = leb (indexOf e) 29
 
-entry-next : (b : Bool) (e : ℕ) → lawfulEntry e ≡ true → lawfulEntry (next b e) ≡ true
+entry-next : (b : Bool) (e : ℕ) → lowIndex e ≡ true → lowIndex (next b e) ≡ true
 entry-next b e h = le-leb (indexOf (next b e)) 29 (next-lawful b e (leb-true (indexOf e) 29 h))
 
 module _ (width : ℕ) where
@@ -49,9 +49,9 @@ module _ (width : ℕ) where
       → lowIndexes (taught qScheme width m p b) ≡ true
   unfolding taught entryAt
   taught-lawful m p true h =
-      all-set lawfulEntry (m .table) (contextOf qScheme width m) _ h
+      all-set lowIndex (m .table) (contextOf qScheme width m) _ h
       (entry-next (eqb p (sense qScheme width m)) (getD (m .table) (contextOf qScheme width m) 0)
-      (all-get lawfulEntry (m .table) (contextOf qScheme width m) 0 h refl))
+      (all-get lowIndex (m .table) (contextOf qScheme width m) 0 h refl))
   taught-lawful m p false h = h
 
   after-lawful : (ps : List ℕ) (s : Stage (qPage width) qWriter) → lowIndexes (s .model .table) ≡ true

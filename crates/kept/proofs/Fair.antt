@@ -31,7 +31,7 @@ use Rattle.kept.proofs.View.{K, viewPageBy, learned-used}
 use Rattle.kept.proofs.Sound.{Sound}
 use Rattle.kept.proofs.BandsKept.{written-low, white-clear, last-clear}
 use Rattle.kept.proofs.Cells.{page-own, place-own}
-use Rattle.kept.proofs.Stored.{Clean, LawfulPage, LawfulTable}
+use Rattle.kept.proofs.Stored.{Clean, FairPage, FairTable}
 
 -- ---- what a lawful page has, and a learned place
 pub record PageFacts (p : Page) : Type 0 where
@@ -81,8 +81,8 @@ owned d s k =
 pub record Fair (k : Key) (s : Stand) (e : Effect) : Type 0 where
   pub known : lawfulKey k ≡ true
   pub clean : Clean (under s) (e .page) (e .learned)
-  pub page : LawfulPage k (e .page)
-  pub table : LawfulTable (e .learned)
+  pub page : FairPage k (e .page)
+  pub table : FairTable (e .learned)
 
 fresh-lawful : lowIndexes fresh ≡ true
 unfolding fresh all
@@ -109,7 +109,7 @@ module _ (k : Key) (s : Stand) (o : Owned k s) where
   pub band-fair : (rows : ℕ) (pels : List ℕ) → given (s .page) ≡ true → 1 ≤ rows → length pels ≡ rows * rowBytes
       (pageOf s .width) → bandPadded
       (pageOf s .width) pels rows ≡ true
-      → LawfulPage k (becomes (servedPage (pageOf s) (bandOf (pageOf s) rows pels)))
+      → FairPage k (becomes (servedPage (pageOf s) (bandOf (pageOf s) rows pels)))
   unfolding servedPage bandOf written
   band-fair rows pels g r l h =
       let p : Page = pageOf s in
@@ -133,7 +133,7 @@ module _ (k : Key) (s : Stand) (o : Owned k s) where
   pub found-fair : (rows : ℕ) (code : List ℕ) (f : Option (List ℕ)) → Right (pageOf s .width) rows
       (pageOf s .table .entries) (pageOf s .last) code f
       → not (given f) ≡ false → given (s .page) ≡ true → 1 ≤ rows
-      → LawfulPage k (becomes (servedPage (pageOf s) (bandOf (pageOf s) rows
+      → FairPage k (becomes (servedPage (pageOf s) (bandOf (pageOf s) rows
       (orElse f []))))
   found-fair rows code (some band) r h g n = band-fair rows band g n (r .0 .size) (r .0 .padded)
   found-fair rows code none r h g n = no-way h
@@ -148,7 +148,7 @@ module _ (k : Key) (s : Stand) (o : Owned k s) where
 -- a new page
 pub new-fair : (ask : Opening) (t : Table) → lawfulKey (ask .key) ≡ true → within 1 (ask .width) maxWidth ≡ true
     → lowIndexes (t .entries) ≡ true
-    → LawfulPage (ask .key) (becomes (newPage ask t))
+    → FairPage (ask .key) (becomes (newPage ask t))
 unfolding newPage
 new-fair ask t h w l = (
   shown (isUsed (stateFor (ask .direction))) (newPage ask t) (ask .key) (page-state (ask .direction) .0) refl,

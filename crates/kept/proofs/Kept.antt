@@ -132,9 +132,10 @@ module _ (R : Reader) (d : Desk) (h : lawful d ≡ true) (c : Call) where
 
   -- after an accepted call the key's page and its class's learned table are what the call made of them
   pub call-leaves : number (R .finds) d c ≡ 0
-      → (openPage (outcome (R .finds) d c .desk) k ≡ afterwards (openPage d k) (e .page))
-      × (learnedTable (outcome (R .finds) d c .desk) k
-      ≡ afterwards (learnedTable d k) (e .learned))
+      → (openPage (outcome (R .finds) d c .desk) (keyOf c)
+      ≡ afterwards (openPage d (keyOf c)) (effectOn (R .finds) d c .page))
+      × (learnedTable (outcome (R .finds) d c .desk) (keyOf c)
+      ≡ afterwards (learnedTable d (keyOf c)) (effectOn (R .finds) d c .learned))
   unfolding outcome
   call-leaves z = rw z (left z)
     where
@@ -158,7 +159,7 @@ module _ (R : Reader) (d : Desk) (h : lawful d ≡ true) (c : Call) where
           )
 
   -- every call keeps a lawful desk lawful, and other keys see no change
-  pub call-keeps : Keeps k d (outcome (R .finds) d c .desk)
+  pub call-keeps : Keeps (keyOf c) d (outcome (R .finds) d c .desk)
   unfolding outcome
   call-keeps =
       by-number (Keeps k d) (number (R .finds) d c) d
@@ -193,8 +194,7 @@ module _ (R : Reader) (d : Desk) (h : lawful d ≡ true) (c : Call) where
       go false e = call-keeps R d h c .others-same j e .table
 
   -- While a page is open a look still shows the old table: after a band it leaves in its buffer what it left before it.
-  pub band-looks : kindOf c ≡ band → (j : Key) (out : List ℕ) → lent (R .finds) (outcome (R .finds) d c .desk)
-      (looks j out) ≡ lent (R .finds) d
-      (looks j out)
+  pub band-looks : kindOf c ≡ band → (j : Key) (out : List ℕ)
+      → lent (R .finds) (outcome (R .finds) d c .desk) (looks j out) ≡ lent (R .finds) d (looks j out)
   unfolding lent number stand tests effect
   band-looks q j out = rw (call-lawful R d h c, h, band-tables q j)

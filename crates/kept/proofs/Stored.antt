@@ -70,15 +70,15 @@ Clean x (becomes p) gone = ⊥
 Clean x (becomes p) (becomes t) = ⊥
 
 -- a new page is lawful, and k's; a new table is lawful
-abbrev pub LawfulPage : Key → Change Page → Type 0
-LawfulPage k stays = Unit {0}
-LawfulPage k gone = Unit {0}
-LawfulPage k (becomes p) = (viewPage p ≡ named K Page k p) × (lawfulPage p ≡ true)
+abbrev pub FairPage : Key → Change Page → Type 0
+FairPage k stays = Unit {0}
+FairPage k gone = Unit {0}
+FairPage k (becomes p) = (viewPage p ≡ named K Page k p) × (lawfulPage p ≡ true)
 
-abbrev pub LawfulTable : Change Table → Type 0
-LawfulTable stays = Unit {0}
-LawfulTable gone = Unit {0}
-LawfulTable (becomes t) = lowIndexes (t .entries) ≡ true
+abbrev pub FairTable : Change Table → Type 0
+FairTable stays = Unit {0}
+FairTable gone = Unit {0}
+FairTable (becomes t) = lowIndexes (t .entries) ≡ true
 
 -- unused room is lawful, and so are a learned and a reserved place
 unused-lawful : lawfulPage unusedPage ≡ true
@@ -104,7 +104,7 @@ module _ (d : Desk) (s : Sound d) (k : Key) (known : lawfulKey k ≡ true) where
   x = cellOf d k
 
   -- ---- the pages
-  pages-stored : (p : Change Page) (t : Change Table) → Clean x p t → LawfulPage k p
+  pages-stored : (p : Change Page) (t : Change Table) → Clean x p t → FairPage k p
       → (map viewPage (pagesAfter d k p) ≡ update K Page k (afterwards (x .page) p) (map viewPage (d .pages)))
       × (all lawfulPage (pagesAfter d k p)
       ≡ true)
@@ -244,7 +244,7 @@ module _ (d : Desk) (s : Sound d) (k : Key) (known : lawfulKey k ≡ true) where
             (s .places-lawful) free-lawful,
       )
 
-  places-stored : (p : Change Page) (t : Change Table) → Clean x p t → LawfulTable t
+  places-stored : (p : Change Page) (t : Change Table) → Clean x p t → FairTable t
       → PlacesStored (placesAfter d k p t) p t
   unfolding placesAfter
   places-stored stays stays c l = (place-kept d s k (placeOf (x .learned) (x .page)) refl, s .places-lawful)
@@ -258,7 +258,7 @@ module _ (d : Desk) (s : Sound d) (k : Key) (known : lawfulKey k ≡ true) where
   places-stored (becomes p) (becomes t) c l = absurd c
 
   -- ---- any change of a call, where there is room for it
-  pub changed-stored : (p : Change Page) (t : Change Table) → Clean x p t → LawfulPage k p → LawfulTable t
+  pub changed-stored : (p : Change Page) (t : Change Table) → Clean x p t → FairPage k p → FairTable t
       → noSlot K Table Page (shelves d) k (cellAfter x p t) ≡ false → noClassPlace K Table Page (shelves d) k
       (cellAfter x p t) ≡ false
       → Stored d (changed d k p t) k (cellAfter x p t)

@@ -10,7 +10,7 @@ use Rattle.limits.specs.Limits.{maxWidth}
 use Rattle.estimate.specs.declared.Table.{Table}
 use Rattle.estimate.specs.Estimate.{fresh}
 use Rattle.band.specs.Band.{white}
-use Rattle.unique.proofs.OneReader.{readBack}
+use Rattle.unique.specs.BandOfCode.{bandOfCode}
 use Rattle.parts.specs.declared.Book.{Book}
 use Rattle.parts.specs.declared.Parts.{Parts}
 use Rattle.parts.specs.declared.PageLine.{PageLine}
@@ -71,18 +71,18 @@ module _ (p : Parts) (ask : Opening) (n : ℕ) (first : n ≡ early (lawful (des
   abbrev d : Desk
   d = deskOf p
 
-  pub open-early : n ≢ 0 → number readBack d (opens ask) ≡ n
+  pub open-early : n ≢ 0 → number bandOfCode d (opens ask) ≡ n
   unfolding number tests
   open-early h = early-here d (ask .key) (within 1 (ask .width) maxWidth) n first h _
 
   module _ (z : n ≡ 0) where
-    pub open-opened : isFound (pageFound d (ask .key)) ≡ true → number readBack d (opens ask) ≡ 3
+    pub open-opened : isFound (pageFound d (ask .key)) ≡ true → number bandOfCode d (opens ask) ≡ 3
     unfolding number tests stand
     open-opened o = early-past d (ask .key) (within 1 (ask .width) maxWidth) n first z _
         ∙ here _ _ (found-page d (pageFound d (ask .key)) ∙ o)
 
     module _ (o : isFound (pageFound d (ask .key)) ≡ false) where
-      pub open-pages : freePageFound d ≡ Nothing → number readBack d (opens ask) ≡ 4
+      pub open-pages : freePageFound d ≡ Nothing → number bandOfCode d (opens ask) ≡ 4
       unfolding number tests stand
       open-pages f =
           early-past d (ask .key) (within 1 (ask .width) maxWidth) n first z _
@@ -90,7 +90,7 @@ module _ (p : Parts) (ask : Opening) (n : ℕ) (first : n ≡ early (lawful (des
           ∙ here _ _ (ap (λ (x : Found). not (isFound x)) f)
 
       module _ (i : ℕ) (f : freePageFound d ≡ At i) where
-        left : number readBack d (opens ask) ≡ refusal
+        left : number bandOfCode d (opens ask) ≡ refusal
             (row 5 (not (isFound (tableFound d (ask .key))) && not (isFound (freePlaceFound d))) ∷ [])
         unfolding number tests stand
         left =
@@ -121,7 +121,7 @@ module _ (p : Parts) (ask : Opening) (n : ℕ) (first : n ≡ early (lawful (des
         unfolding effect changed pagesAfter placesAfter stand openNew
         open-left r t a = go (isFound (freePlaceFound d)) refl
           where
-            numbered : (b : Bool) → isFound (freePlaceFound d) ≡ b → number readBack d (opens ask) ≡ refusal
+            numbered : (b : Bool) → isFound (freePlaceFound d) ≡ b → number bandOfCode d (opens ask) ≡ refusal
                 (row 5 (not b) ∷ [])
             numbered b e = left ∙ rw (t, e)
 

@@ -15,7 +15,8 @@ use Rattle.template.specs.Pels.{rowBytes}
 use Rattle.band.specs.Band.{Written}
 use Rattle.reader.specs.declared.Read.{Read}
 use Rattle.reader.specs.Found.{rowsFit, readAnswer, readOut, BandFound}
-use Rattle.unique.proofs.OneReader.{readBack, right-found}
+use Rattle.unique.specs.BandOfCode.{bandOfCode}
+use Rattle.unique.proofs.OneReader.{right-found}
 use Rattle.desk.specs.declared.Ask.{Ask}
 use Rattle.desk.specs.Desk.{Page, Desk}
 use Rattle.desk.specs.Places.{noPage}
@@ -40,7 +41,7 @@ over a b = go (leb b a) refl
 abbrev onPage : Ask → List ℕ → List ℕ → Page → List Row
 onPage ask code out p =
     row 9 (ltb (length out) (ask .rows * rowBytes (p .width)))
-    ∷ row 10 (not (given (foundIn readBack p (ask .rows) code))) ∷ []
+    ∷ row 10 (not (given (foundIn bandOfCode p (ask .rows) code))) ∷ []
 
 -- both sizes that are tested first are right
 abbrev pub sizes : Ask → List ℕ → Bool
@@ -54,7 +55,7 @@ two-sizes u v true l rs = refl
 two-sizes u v false l rs = refl
 
 pub read-number : (d : Desk) (ask : Ask) (code out : List ℕ)
-    → number readBack d (reads ask code out)
+    → number bandOfCode d (reads ask code out)
     ≡ refusal (pagedTo d (ask .key) (sizes ask code) 2 (onPage ask code out (pageOf (stand d (ask .key)))))
 unfolding number tests stand
 read-number d ask code out =
@@ -77,12 +78,12 @@ module _ (d : Desk) (ask : Ask) (code out : List ℕ) (i : ℕ) (t : StoodTo d (
   abbrev fits : Bool
   fits = rowsFit (page .width) (ask .rows) out
 
-  on : number readBack d (reads ask code out)
-      ≡ refusal (row 9 (not fits) ∷ row 10 (not (given (foundIn readBack page (ask .rows) code))) ∷ [])
+  on : number bandOfCode d (reads ask code out)
+      ≡ refusal (row 9 (not fits) ∷ row 10 (not (given (foundIn bandOfCode page (ask .rows) code))) ∷ [])
   unfolding rowsFit
   on =
       read-number d ask code out ∙ t .rest _ ∙ ap (λ (p : Page). refusal (onPage ask code out p)) at
-      ∙ ap (λ (x : Bool). refusal (row 9 x ∷ row 10 (not (given (foundIn readBack page (ask .rows) code))) ∷ []))
+      ∙ ap (λ (x : Bool). refusal (row 9 x ∷ row 10 (not (given (foundIn bandOfCode page (ask .rows) code))) ∷ []))
       (over (length out) (ask .rows * rowBytes (page .width)))
 
   -- what reading gives, with a band and without room
@@ -114,7 +115,7 @@ module _ (d : Desk) (ask : Ask) (code out : List ℕ) (i : ℕ) (t : StoodTo d (
           by true = refl
           by false = refl
 
-  pub read-room : r .room ≡ false → number readBack d (reads ask code out) ≡ 9
+  pub read-room : r .room ≡ false → number bandOfCode d (reads ask code out) ≡ 9
   read-room e = on ∙ here _ _ (ap not (sym room-is ∙ e))
 
   pub read-full : r .room ≡ false → after ≡ cleared out
@@ -127,12 +128,12 @@ module _ (d : Desk) (ask : Ask) (code out : List ℕ) (i : ℕ) (t : StoodTo d (
 
   -- ---- with room, what is found decides
   module _ (room : r .room ≡ true) where
-    found-is : foundIn readBack page (ask .rows) code ≡ b .found
+    found-is : foundIn bandOfCode page (ask .rows) code ≡ b .found
     unfolding foundIn
     found-is = sym (right-found (page .width) (ask .rows) (page .table .entries) (page .last) code (b .found)
         (b .right (sym room-is ∙ room)))
 
-    told : number readBack d (reads ask code out) ≡ refusal (row 10 (not (given (b .found))) ∷ [])
+    told : number bandOfCode d (reads ask code out) ≡ refusal (row 10 (not (given (b .found))) ∷ [])
     told =
         on ∙ past _ _ (ap not (sym room-is ∙ room))
         ∙ ap (λ (f : Option (List ℕ)). refusal (row 10 (not (given f)) ∷ [])) found-is
@@ -147,7 +148,7 @@ module _ (d : Desk) (ask : Ask) (code out : List ℕ) (i : ℕ) (t : StoodTo d (
         go none = refl
         go (some band) = rw (sym room-is ∙ room)
 
-    pub read-damaged : r .good ≡ false → number readBack d (reads ask code out) ≡ 10
+    pub read-damaged : r .good ≡ false → number bandOfCode d (reads ask code out) ≡ 10
     read-damaged e = told ∙ here _ _ (ap not (sym good-is ∙ e))
 
     pub damaged-out : r .good ≡ false → after ≡ cleared out
@@ -171,7 +172,7 @@ module _ (d : Desk) (ask : Ask) (code out : List ℕ) (i : ℕ) (t : StoodTo d (
           go none g = no-way (sym g)
           go (some l) g = refl
 
-      pub read-end : number readBack d (reads ask code out) ≡ 0
+      pub read-end : number bandOfCode d (reads ask code out) ≡ 0
       read-end = told ∙ past _ _ (ap not (sym good-is ∙ good)) ∙ at-end
 
       pub read-gave : r ≡ answered band
@@ -186,10 +187,10 @@ module _ (d : Desk) (ask : Ask) (code out : List ℕ) (i : ℕ) (t : StoodTo d (
       read-lent = b .lent ∙ ap (λ (f : Option (List ℕ)). readOut f (page .width) (ask .rows) out) is-band
           ∙ rw (sym room-is ∙ room)
 
-      pub read-effect : effectOn readBack d (reads ask code out) ≡ serves page (bandOf page (ask .rows) band) band out
+      pub read-effect : effectOn bandOfCode d (reads ask code out) ≡ serves page (bandOf page (ask .rows) band) band out
       unfolding effect
       read-effect =
-          ap (λ (p : Page). serves p (bandOf p (ask .rows) (bandIn readBack p (ask .rows) code))
-          (bandIn readBack p (ask .rows) code) out) at
+          ap (λ (p : Page). serves p (bandOf p (ask .rows) (bandIn bandOfCode p (ask .rows) code))
+          (bandIn bandOfCode p (ask .rows) code) out) at
           ∙ ap (λ (l : List ℕ). serves page (bandOf page (ask .rows) l) l out)
           (ap (λ (f : Option (List ℕ)). orElse f []) (found-is ∙ is-band))

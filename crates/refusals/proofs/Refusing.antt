@@ -11,7 +11,8 @@ use borrow.Author.Tests.{ne-eqb}
 use Rattle.ground.proofs.Bools.{no-way}
 use Rattle.ground.specs.Options.{given, orElse}
 use Rattle.store.specs.Store.{cleared}
-use Rattle.unique.proofs.OneReader.{readBack, reading}
+use Rattle.unique.specs.BandOfCode.{bandOfCode}
+use Rattle.unique.proofs.OneReader.{reading}
 use Rattle.desk.specs.declared.Key.{Key}
 use Rattle.parts.specs.declared.Book.{Book}
 use Rattle.parts.specs.declared.Parts.{Parts}
@@ -220,22 +221,22 @@ unless-lent m out after zero e h = absurd (h refl)
 unless-lent m out after (suc n) e h = rw e
 
 module _ (d : Desk) (c : Call) where
-  pub refuses-so : (n : ℕ) (r : Outcome) (after : List ℕ) → number readBack d c ≡ n → n ≢ 0 → r ≡ refused n d
+  pub refuses-so : (n : ℕ) (r : Outcome) (after : List ℕ) → number bandOfCode d c ≡ n → n ≢ 0 → r ≡ refused n d
       → after ≡ lentAfter n (lentTo c)
       → Allowed d c r after
   unfolding outcome lent
   refuses-so n r after e h q l =
       record {
         reader = reading;
-        outcome = q ∙ unless-not (number readBack d c) d _ n e h;
-        lent = l ∙ unless-lent (number readBack d c) (lentTo c) _ n e h;
+        outcome = q ∙ unless-not (number bandOfCode d c) d _ n e h;
+        lent = l ∙ unless-lent (number bandOfCode d c) (lentTo c) _ n e h;
       }
 
-  pub accepts-so : (r : Outcome) (after : List ℕ) → number readBack d c ≡ 0
-      → r ≡ done (effectOn readBack d c .length) (effectOn readBack d c .shifts)
-      (changed d (keyOf c) (effectOn readBack d c .page)
-      (effectOn readBack d c .learned))
-      → after ≡ effectOn readBack d c .lent → Allowed d c r after
+  pub accepts-so : (r : Outcome) (after : List ℕ) → number bandOfCode d c ≡ 0
+      → r ≡ done (effectOn bandOfCode d c .length) (effectOn bandOfCode d c .shifts)
+      (changed d (keyOf c) (effectOn bandOfCode d c .page)
+      (effectOn bandOfCode d c .learned))
+      → after ≡ effectOn bandOfCode d c .lent → Allowed d c r after
   unfolding outcome lent
   accepts-so r after e q l = record { reader = reading; outcome = rw e q; lent = rw e l }
 
@@ -244,7 +245,7 @@ abbrev left : Reply → List (List ℕ) → List (List ℕ) → List (List ℕ) 
 left x working rows learned = outcomeOf (x .answer) (partsOf (x .book) working rows learned)
 
 module _ (p : Parts) (w : Whole p) (c : Call) where
-  pub refuses : (n : ℕ) (x : Reply) (after : List ℕ) → number readBack (deskOf p) c ≡ n → n ≢ 0
+  pub refuses : (n : ℕ) (x : Reply) (after : List ℕ) → number bandOfCode (deskOf p) c ≡ n → n ≢ 0
       → x ≡ refusedBy n (p .book)
       → after ≡ lentAfter n (lentTo c) → Serves p c (x .answer) (partsOf (x .book) (p .working) (p .rows) (p .learned))
       after
@@ -256,7 +257,8 @@ module _ (p : Parts) (w : Whole p) (c : Call) where
       }
 
   -- by where it stands
-  pub turns-away : (s : Stands) (n : ℕ) (x : Reply) (after : List ℕ) → s ≡ Refused n → number readBack (deskOf p) c ≡ n
+  pub turns-away : (s : Stands) (n : ℕ) (x : Reply) (after : List ℕ) → s ≡ Refused n
+      → number bandOfCode (deskOf p) c ≡ n
       → n ≢ 0
       → x ≡ refusedBy (numberOf s) (p .book) → after ≡ lentAfter n (lentTo c)
       → Serves p c (x .answer) (partsOf (x .book) (p .working) (p .rows) (p .learned)) after
@@ -265,17 +267,18 @@ module _ (p : Parts) (w : Whole p) (c : Call) where
 
 -- the book and the arrays that it leaves, their sizes kept
 pub accepts : (p : Parts) (c : Call) (x : Reply) (book : Book) (working rows learned : List (List ℕ)) (after : List ℕ)
-    → Whole (partsOf book working rows learned) → number readBack (deskOf p) c ≡ 0
-    → x ≡ doneBy (effectOn readBack (deskOf p) c .length) (effectOn readBack (deskOf p) c .shifts) book
-    → deskOf (partsOf book working rows learned) ≡ changed (deskOf p) (keyOf c) (effectOn readBack (deskOf p) c .page)
-    (effectOn readBack (deskOf p) c .learned)
-    → after ≡ effectOn readBack (deskOf p) c .lent → Serves p c (x .answer) (partsOf (x .book) working rows learned)
+    → Whole (partsOf book working rows learned) → number bandOfCode (deskOf p) c ≡ 0
+    → x ≡ doneBy (effectOn bandOfCode (deskOf p) c .length) (effectOn bandOfCode (deskOf p) c .shifts) book
+    → deskOf (partsOf book working rows learned) ≡ changed (deskOf p) (keyOf c) (effectOn bandOfCode (deskOf p) c .page)
+    (effectOn bandOfCode (deskOf p) c .learned)
+    → after ≡ effectOn bandOfCode (deskOf p) c .lent → Serves p c (x .answer) (partsOf (x .book) working rows learned)
     after
 accepts p c x book working rows learned after w e q a l =
     record {
       allowed = accepts-so (deskOf p) c _ after e
           (ap (λ (y : Reply). left y working rows learned) q
-          ∙ ap (λ (z : Desk). done (effectOn readBack (deskOf p) c .length) (effectOn readBack (deskOf p) c .shifts) z)
+          ∙ ap (λ (z : Desk). done (effectOn bandOfCode (deskOf p) c .length)
+          (effectOn bandOfCode (deskOf p) c .shifts) z)
           a) l;
       whole = whole-as (ap (λ (y : Reply). y .book) q) w;
     }

@@ -8,7 +8,7 @@ use lib.ListN.{length, getD, set}
 use Rattle.ground.specs.Options.{orElse}
 use Rattle.store.specs.Store.{inFront}
 use Rattle.band.specs.Band.{Written}
-use Rattle.unique.proofs.OneReader.{readBack}
+use Rattle.unique.specs.BandOfCode.{bandOfCode}
 use Rattle.desk.specs.declared.Key.{Key}
 use Rattle.parts.specs.declared.Book.{Book}
 use Rattle.parts.specs.declared.Parts.{Parts}
@@ -55,7 +55,7 @@ module _ (p : Parts) (w : Whole p) (k : Key) (z : Bool) (i : ℕ) (t : Stood (de
   -- an accepted band: bytes in the front of the buffer, S, the page with its table and last row
   pub band-done : (c : Call) (b : Written) (bytes out after : List ℕ) (x : Reply) (next : Book)
       (working rows : List (List ℕ)) → keyOf c ≡ k
-      → number readBack (deskOf p) c ≡ 0 → effectOn readBack (deskOf p) c ≡ serves (pageIn p i) b bytes out
+      → number bandOfCode (deskOf p) c ≡ 0 → effectOn bandOfCode (deskOf p) c ≡ serves (pageIn p i) b bytes out
       → PagePut (p .book) (p .working) (p .rows) i (asPage (getD (p .book .pages) i noPageLine) (b .table) (b .last))
       next working rows
       → x ≡ doneBy (length bytes) (b .shifts) next → after ≡ inFront bytes out

@@ -11,9 +11,7 @@ use Rattle.turns.specs.Service.{Entry, calls}
 use Rattle.turns.specs.Serial.{serial, Whole}
 use Rattle.turns.specs.Order.{standing, ofKey}
 use Rattle.turns.specs.Strike.{strike, count}
-use Rattle.turns.proofs.Strike.{nothing-lost}
 use Rattle.turns.specs.Own.{own}
-use Rattle.turns.proofs.Own.{own-order}
 use Rattle.band.specs.Band.{Reader}
 use Rattle.desk.specs.declared.Key.{Key}
 use Rattle.desk.specs.Places.{emptyDesk}

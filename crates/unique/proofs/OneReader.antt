@@ -1,7 +1,7 @@
 -- There is one right reader: among all bands of that width and height it finds the one that is written as those bytes.
 -- Assumes nothing.
 use mathlib.Core.Path.{_≡_, refl, sym, ap, ap₂, _∙_, fun-ext}
-use mathlib.Core.Bool.{Bool, true, false, _&&_}
+use mathlib.Core.Bool.{true, _&&_}
 use mathlib.Core.Option.{Option, some, none}
 use mathlib.Core.List.{List, [], _∷_}
 use Prim.Native.Nat.{ℕ, zero, suc, _*_}
@@ -15,23 +15,9 @@ use Rattle.template.specs.Pels.{rowBytes, bandPadded}
 use Rattle.band.specs.Band.{written, Right, Reader}
 use Rattle.band.proofs.One.{OneBand, one-right}
 use Rattle.unique.proofs.Unique.{no-two}
-use Rattle.unique.proofs.Search.{search, found, Fits}
-
--- two lists with the same bytes
-unfoldable pub sameBytes : List ℕ → List ℕ → Bool
-sameBytes [] [] = true
-sameBytes [] (y ∷ b) = false
-sameBytes (x ∷ a) [] = false
-sameBytes (x ∷ a) (y ∷ b) = eqb x y && sameBytes a b
-
--- a padded band that is written as the code
-unfoldable pub writtenSo : ℕ → ℕ → List ℕ → List ℕ → List ℕ → List ℕ → Bool
-writtenSo width rows table last code band =
-    bandPadded width band rows && sameBytes (written width rows table last band .code) code
-
--- the band that is found, among all lists of that many bytes
-unfoldable pub readBack : ℕ → ℕ → List ℕ → List ℕ → List ℕ → Option (List ℕ)
-readBack width rows table last code = search 255 (rows * rowBytes width) (writtenSo width rows table last code)
+use Rattle.unique.specs.Search.{search}
+use Rattle.unique.proofs.Search.{found, Fits}
+use Rattle.unique.specs.BandOfCode.{sameBytes, writtenSo, bandOfCode}
 
 same-bytes : (a b : List ℕ) → sameBytes a b ≡ true → a ≡ b
 unfolding sameBytes
@@ -63,15 +49,15 @@ module _ (width rows : ℕ) (table last code : List ℕ) where
       ∙ bytes-same code))
 
   -- what it finds is right
-  pub right : Right width rows table last code (readBack width rows table last code)
-  unfolding readBack
+  pub right : Right width rows table last code (bandOfCode width rows table last code)
+  unfolding bandOfCode
   right = taken (search 255 (rows * rowBytes width) (writtenSo width rows table last code))
       (found 255 (rows * rowBytes width)
       (writtenSo width rows table last code))
 
 -- the right reader: it finds the band that is written so
 abbrev pub reading : Reader
-reading = record { finds = readBack; right = right }
+reading = record { finds = bandOfCode; right = right }
 
 -- two bands of one size are never written as the same code from one table and last row, whatever the sizes
 one-band : (width rows : ℕ) (table last : List ℕ) → OneBand width rows table last
@@ -86,13 +72,13 @@ one-band (suc w) rows table last a b ia ib e = no-two (suc w) rows table last a 
 -- what is right of a code is what is found
 pub right-found : (width rows : ℕ) (table last code : List ℕ) (f : Option (List ℕ))
     → Right width rows table last code f → f
-    ≡ readBack width rows table last code
+    ≡ bandOfCode width rows table last code
 right-found width rows table last code f r =
-    one-right width rows table last code (one-band width rows table last) f (readBack width rows table last code) r
+    one-right width rows table last code (one-band width rows table last) f (bandOfCode width rows table last code) r
     (right width rows table last code)
 
 -- any right reader finds what this one finds
-pub one-reader : (R : Reader) → R .finds ≡ readBack
+pub one-reader : (R : Reader) → R .finds ≡ bandOfCode
 one-reader R =
     fun-ext (λ width. fun-ext
     (λ rows. fun-ext (λ table. fun-ext (λ last. fun-ext (λ code. right-found width rows table last code

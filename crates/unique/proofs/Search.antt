@@ -8,26 +8,7 @@ use native.Mathlib.Decide.{decLt}
 use native.Mathlib.Omega.{arith}
 use lib.ListN.{getD, length}
 use Rattle.ground.proofs.Bools.{no-way}
-
--- the first that is there
-unfoldable pub firstOf : Option (List ℕ) → Option (List ℕ) → Option (List ℕ)
-firstOf (some l) p = some l
-firstOf none p = p
-
--- a byte before a list
-unfoldable pub before : ℕ → Option (List ℕ) → Option (List ℕ)
-before v (some l) = some (v ∷ l)
-before v none = none
-
--- what is found for one of the values below m
-unfoldable pub values : ℕ → (ℕ → Option (List ℕ)) → Option (List ℕ)
-values zero f = none
-values (suc m) f = firstOf (values m f) (f m)
-
--- a list of n numbers up to top that the test takes
-unfoldable pub search : ℕ → ℕ → (List ℕ → Bool) → Option (List ℕ)
-search top zero test = cond (test []) (some []) none
-search top (suc n) test = values (suc top) (λ v. before v (search top n (λ l. test (v ∷ l))))
+use Rattle.unique.specs.Search.{firstOf, values, before, search}
 
 module _ (top : ℕ) where
   -- what a search must answer

@@ -14,7 +14,7 @@ use Rattle.template.specs.Pels.{rowBytes, bandPadded}
 use Rattle.writer.specs.declared.Wrote.{Wrote}
 use Rattle.band.specs.Band.{Written, hasRoom}
 use Rattle.writer.specs.Wrote.{wroteAnswer, wroteOut}
-use Rattle.unique.proofs.OneReader.{readBack}
+use Rattle.unique.specs.BandOfCode.{bandOfCode}
 use Rattle.desk.specs.declared.Ask.{Ask}
 use Rattle.desk.specs.Desk.{Page, Desk}
 use Rattle.desk.specs.Lawful.{within}
@@ -53,7 +53,7 @@ onPage ask pels out p =
     ∷ []
 
 pub write-number : (d : Desk) (ask : Ask) (pels out : List ℕ)
-    → number readBack d (writes ask pels out)
+    → number bandOfCode d (writes ask pels out)
     ≡ refusal (pagedTo d (ask .key) (within 1 (ask .rows) maxRows) 1
     (onPage ask pels out (pageOf (stand d (ask .key)))))
 unfolding number tests stand
@@ -63,17 +63,18 @@ write-number d ask pels out = refl
 module _ (d : Desk) (ask : Ask) (pels out : List ℕ) (i : ℕ) (t : StoodTo d (ask .key) (within 1 (ask .rows) maxRows) 1
     i) (page : Page)
     (at : pageOf (stand d (ask .key)) ≡ page) where
-  on : number readBack d (writes ask pels out) ≡ refusal (onPage ask pels out page)
+  on : number bandOfCode d (writes ask pels out) ≡ refusal (onPage ask pels out page)
   on = write-number d ask pels out ∙ t .rest _ ∙ ap (λ (p : Page). refusal (onPage ask pels out p)) at
 
-  pub write-pels : length pels ≢ ask .rows * rowBytes (page .width) → number readBack d (writes ask pels out) ≡ 6
+  pub write-pels : length pels ≢ ask .rows * rowBytes (page .width) → number bandOfCode d (writes ask pels out) ≡ 6
   write-pels h = on ∙ here _ _ (ap not (ne-eqb (length pels) (ask .rows * rowBytes (page .width)) h))
 
   module _ (l : length pels ≡ ask .rows * rowBytes (page .width)) where
     exact : not (eqb (length pels) (ask .rows * rowBytes (page .width))) ≡ false
     exact = ap not (eq-eqb (length pels) (ask .rows * rowBytes (page .width)) l)
 
-    pub write-padding : bandPadded (page .width) pels (ask .rows) ≡ false → number readBack d (writes ask pels out) ≡ 8
+    pub write-padding : bandPadded (page .width) pels (ask .rows) ≡ false → number bandOfCode d (writes ask pels out)
+        ≡ 8
     write-padding h = on ∙ past _ _ exact ∙ here _ _ (ap not h)
 
     module _ (a : bandPadded (page .width) pels (ask .rows) ≡ true) (r : Wrote)
@@ -85,7 +86,7 @@ module _ (d : Desk) (ask : Ask) (pels out : List ℕ) (i : ℕ) (t : StoodTo d (
           (withoutRoom (page .table) (page .last)) r answer refl refl
 
       module _ (full : r .room ≡ false) where
-        pub write-room : number readBack d (writes ask pels out) ≡ 9
+        pub write-room : number bandOfCode d (writes ask pels out) ≡ 9
         write-room = on ∙ past _ _ exact ∙ past _ _ (ap not a) ∙ here _ _ (ap not (has ∙ full))
 
         pub cleared-out : wroteOut (bandOf page (ask .rows) pels) out ≡ cleared out
@@ -93,7 +94,7 @@ module _ (d : Desk) (ask : Ask) (pels out : List ℕ) (i : ℕ) (t : StoodTo d (
         cleared-out = rw (has ∙ full)
 
       module _ (room : r .room ≡ true) where
-        pub write-end : number readBack d (writes ask pels out) ≡ 0
+        pub write-end : number bandOfCode d (writes ask pels out) ≡ 0
         write-end = on ∙ past _ _ exact ∙ past _ _ (ap not a) ∙ past _ _ (ap not (has ∙ room)) ∙ at-end
 
         pub write-gave : r ≡ withRoom (bandOf page (ask .rows) pels)
@@ -104,7 +105,7 @@ module _ (d : Desk) (ask : Ask) (pels out : List ℕ) (i : ℕ) (t : StoodTo d (
         unfolding wroteOut
         write-lent = rw (has ∙ room)
 
-  pub write-effect : effectOn readBack d (writes ask pels out)
+  pub write-effect : effectOn bandOfCode d (writes ask pels out)
       ≡ serves page (bandOf page (ask .rows) pels) (bandOf page (ask .rows) pels .code) out
   unfolding effect
   write-effect = ap (λ (p : Page). serves p (bandOf p (ask .rows) pels) (bandOf p (ask .rows) pels .code) out) at
