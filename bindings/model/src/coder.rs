@@ -14,13 +14,15 @@ pub trait Sink {
     fn put(&mut self, byte: u8) -> Result<(), Refusal>;
 }
 
-/// Is told of the two rare kinds of carry. The tests count them; the unit
-/// type does nothing, at no cost.
+/// Is told of the two rare kinds of carry and of the rare end. The tests
+/// count them; the unit type does nothing, at no cost.
 pub trait Watch {
     /// A carry became a stuff bit.
     fn stuff_carry(&mut self) {}
     /// A carry turned FE into FF and was spent.
     fn spent_carry(&mut self) {}
+    /// The last byte was FF, and one more byte 00 followed.
+    fn last_ff(&mut self) {}
 }
 
 impl Watch for () {}
@@ -146,6 +148,7 @@ impl<S: Sink, W: Watch> Writer<S, W> {
     }
 
     /// Makes the last bytes; answers the shifts, the sink and the watch.
+    /// Where the last one is FF, one more byte 00 follows (request E2).
     pub fn finish(mut self) -> Result<(u32, S, W), Refusal> {
         while self.covered < FIRST + self.shifts {
             self.lower <<= self.due;
@@ -153,6 +156,10 @@ impl<S: Sink, W: Watch> Writer<S, W> {
         }
         if let Some(byte) = self.held {
             self.sink.put(byte)?;
+        }
+        if self.held == Some(0xFF) {
+            self.sink.put(0x00)?;
+            self.watch.last_ff();
         }
         Ok((self.shifts, self.sink, self.watch))
     }

@@ -1,8 +1,8 @@
-//! A plain model of document 01: the Q-coder, the template, bands and the
-//! desk, in ordinary Rust.
+//! A plain model of document 01, with request E2: the Q-coder, the template,
+//! bands and the desk, in ordinary Rust.
 //!
 //! It shares nothing with the proved library: it was written from the
-//! document, so that the two can be compared call by call. It is also what
+//! documents, so that the two can be compared call by call. It is also what
 //! the benchmarks measure the library against, and so it is kept fast.
 //!
 //! The later modules are the means of such tests: [`call`] has calls as data,

@@ -1,6 +1,7 @@
 //! Random tables, bands, desks and spoiled codes.
 
-use crate::band::{row_bytes, Row, State, MAX_WIDTH};
+use crate::band::{self, row_bytes, Row, State, MAX_CODE, MAX_WIDTH};
+use crate::coder::Watch;
 use crate::desk::{Desk, Direction, Key, Page, Place, PAGES};
 use crate::random::Random;
 use crate::table::{after_expected, after_unexpected, Table, CONTEXTS, ENTRIES, SIZES};
@@ -197,6 +198,49 @@ pub fn steered(random: &mut Random, from: &State, width: usize, height: usize) -
         picture.push(row);
     }
     rows(width, height, |x, y| picture[y + 1][x])
+}
+
+/// Sees whether a 00 follows a last FF.
+struct LastFf(bool);
+
+impl Watch for &mut LastFf {
+    fn last_ff(&mut self) {
+        self.0 = true;
+    }
+}
+
+fn has_last_ff(from: &State, width: usize, pels: &[u8]) -> bool {
+    let mut seen = LastFf(false);
+    let written = band::write(
+        &mut from.clone(),
+        width,
+        pels,
+        &mut [0; MAX_CODE],
+        &mut seen,
+    );
+    written.is_ok() && seen.0
+}
+
+/// A page, its width, and a row of it whose code has a last FF: any pels, and
+/// then white ones, each of which raises the lower end by one, so that in the
+/// end its lowest bits are ones.
+pub fn last_ff(random: &mut Random) -> (State, usize, Vec<u8>) {
+    let mut tries = (0..1000).map(|_| try_last_ff(random));
+    tries
+        .find_map(|found| found)
+        .expect("a code with a last FF")
+}
+
+fn try_last_ff(random: &mut Random) -> Option<(State, usize, Vec<u8>)> {
+    let front = random.between(1, 40);
+    let mut from = state(random, front);
+    from.table[0] = 2 * 29; // the size is 1
+    let row = band(random, &from, front, 1);
+    let black = |x: usize| x < front && row[x / 8] >> (7 - x % 8) & 1 == 1;
+    let widths = front..front + 0x100;
+    let mut rows = widths.map(|width| (width, rows(width, 1, |x, _| black(x))));
+    let (width, pels) = rows.find(|(width, pels)| has_last_ff(&from, *width, pels))?;
+    Some((from, width, pels))
 }
 
 /// A lawful desk: any slots and places in use, in any order.

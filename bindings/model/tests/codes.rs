@@ -1,25 +1,14 @@
 //! The fast coder against the definition in exact numbers, and the reader
 //! against all bands.
 
-use siftpebble_model::band::{self, row_bytes, State, MAX_CODE};
+mod common;
+
+use common::{all_bands, assert_bounds, new_page, write};
+use siftpebble_model::band::{self, row_bytes, State};
 use siftpebble_model::random::Random;
 use siftpebble_model::sample;
-use siftpebble_model::table::{after_expected, after_unexpected, Table, FRESH, SIZES};
+use siftpebble_model::table::{after_expected, after_unexpected, Table, SIZES};
 use std::collections::BTreeMap;
-
-fn new_page() -> State {
-    let last = [0; 256];
-    State { table: FRESH, last }
-}
-
-/// Writes a band; answers the code, S and the state after it.
-fn write(from: &State, width: usize, pels: &[u8]) -> (Vec<u8>, u64, State) {
-    let mut state = from.clone();
-    let mut out = vec![0; MAX_CODE];
-    let band = band::write(&mut state, width, pels, &mut out, ()).expect("room");
-    out.truncate(band.length);
-    (out, band.shifts, state)
-}
 
 /// A fraction below 1.0, of any number of binary digits.
 #[derive(Clone, Default, PartialEq, Debug)]
@@ -139,7 +128,7 @@ impl Defined {
     }
 }
 
-/// Document 01's code and S of a band.
+/// Document 01's code and S of a band, with the end that request E2 gives it.
 fn defined(from: &State, width: usize, pels: &[u8]) -> (Vec<u8>, u64) {
     let mut writer = Defined {
         table: from.table,
@@ -159,18 +148,14 @@ fn defined(from: &State, width: usize, pels: &[u8]) -> (Vec<u8>, u64) {
     while number(&writer.code).0.len() < writer.lower.0.len() {
         make_byte(&mut writer.code, &writer.lower);
     }
+    if writer.code.ends_with(&[0xFF]) {
+        writer.code.push(0x00);
+    }
     let shifts = writer.shifts() as u64;
     (writer.code, shifts)
 }
 
-/// All bands of a size.
-fn all_bands(width: usize, rows: usize) -> impl Iterator<Item = Vec<u8>> {
-    let pels = width * rows;
-    (0..1usize << pels)
-        .map(move |n| sample::rows(width, rows, |x, y| n >> (y * width + x) & 1 == 1))
-}
-
-const SMALL: [(usize, usize); 14] = [
+const SMALL: [(usize, usize); 15] = [
     (1, 1),
     (2, 1),
     (1, 2),
@@ -185,6 +170,7 @@ const SMALL: [(usize, usize); 14] = [
     (10, 1),
     (12, 1),
     (13, 1),
+    (14, 1),
 ];
 
 #[test]
@@ -211,6 +197,16 @@ fn random_bands_have_the_defined_codes() {
         let (width, rows) = (random.between(1, 40), random.between(1, 8));
         let from = sample::state(&mut random, width);
         let pels = sample::band(&mut random, &from, width, rows);
+        let (code, shifts, _) = write(&from, width, &pels);
+        assert_eq!((code, shifts), defined(&from, width, &pels));
+    }
+}
+
+#[test]
+fn bands_with_a_last_ff_have_the_defined_codes() {
+    let mut random = Random::new(9);
+    for _ in 0..500 {
+        let (from, width, pels) = sample::last_ff(&mut random);
         let (code, shifts, _) = write(&from, width, &pels);
         assert_eq!((code, shifts), defined(&from, width, &pels));
     }
@@ -286,15 +282,6 @@ fn bands_are_read_back() {
 
 fn is_stuff_carry(pair: &[u8]) -> bool {
     pair[0] == 0xFF && pair[1] >= 0x80
-}
-
-/// The length rule, and what may follow an FF.
-fn assert_bounds(code: &[u8], shifts: u64) {
-    let before_last = code.len() as u64 - 1;
-    assert!(8 * before_last - before_last / 2 <= 11 + shifts);
-    assert!(code
-        .windows(2)
-        .all(|pair| pair[0] != 0xFF || pair[1] <= 0x8F));
 }
 
 /// Other bytes of the same length that have the same number.

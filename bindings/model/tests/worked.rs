@@ -43,7 +43,7 @@ type Case = (
     u64,
 );
 
-const CASES: [Case; 11] = [
+const CASES: [Case; 12] = [
     ("P1", 1, &[(1, &[0x00])], &[0xAC, 0x10], 2),
     ("P2", 1, &[(1, &[0x80])], &[0x00, 0x00], 1),
     ("P3", 2, &[(1, &[0x00])], &[0xD6, 0x14], 3),
@@ -64,8 +64,15 @@ const CASES: [Case; 11] = [
         "last FF",
         13,
         &[(1, &[0xE6, 0x60])],
-        &[0x15, 0x6E, 0xFF],
+        &[0x15, 0x6E, 0xFF, 0x00],
         12,
+    ),
+    (
+        "FF 00 by the bits",
+        14,
+        &[(1, &[0xE6, 0x60])],
+        &[0x15, 0x6E, 0xFF, 0x00],
+        13,
     ),
 ];
 
@@ -106,6 +113,22 @@ fn p11_damaged_codes() {
         assert_eq!(desk, before);
     }
     assert_eq!(read(&mut desk, 1, &[0xAC, 0x10], 1), (vec![0], 2));
+}
+
+/// A last FF without its 00, and with one 00 too many.
+#[test]
+fn a_wrong_end_is_damaged() {
+    let mut desk = open(Direction::Read, 13);
+    let before = desk.clone();
+    let codes: [&[u8]; 2] = [&[0x15, 0x6E, 0xFF], &[0x15, 0x6E, 0xFF, 0x00, 0x00]];
+    for code in codes {
+        let mut out = [0xA5; 3];
+        let answer = desk.read(KEY, 1, code, &mut out);
+        assert_eq!(answer, Err(Refusal::Damaged));
+        assert_eq!((out, &desk), ([0; 3], &before));
+    }
+    let rows = read(&mut desk, 1, &[0x15, 0x6E, 0xFF, 0x00], 2);
+    assert_eq!(rows, (vec![0xE6, 0x60], 12));
 }
 
 /// Another form of a number that a band has is no band's code.
@@ -217,6 +240,25 @@ fn p1_into_two_bytes_and_one() {
     let mut two = [0xA5; 2];
     assert!(desk.write(KEY, 1, &[0], &mut two).is_ok());
     assert_eq!(two, [0xAC, 0x10]);
+}
+
+/// The 00 after a last FF counts in the length and needs its room.
+#[test]
+fn a_last_ff_into_four_bytes_and_three() {
+    let mut desk = open(Direction::Write, 13);
+    let before = desk.clone();
+    let mut three = [0xA5; 3];
+    let answer = desk.write(KEY, 1, &[0xE6, 0x60], &mut three);
+    assert_eq!(answer, Err(Refusal::NoRoom));
+    assert_eq!((three, &desk), ([0; 3], &before));
+    let mut four = [0xA5; 4];
+    let answer = desk.write(KEY, 1, &[0xE6, 0x60], &mut four);
+    let band = Band {
+        length: 4,
+        shifts: 12,
+    };
+    assert_eq!(answer, Ok(band));
+    assert_eq!(four, [0x15, 0x6E, 0xFF, 0x00]);
 }
 
 #[test]
