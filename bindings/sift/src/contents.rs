@@ -2,7 +2,8 @@
 //! before the bytes are there.
 
 use crate::crc::crc32;
-use crate::frame::{Header, Record, END, HEADER_BYTES, MAGIC, MAX_HEIGHT, MAX_PAGES, VERSION};
+use crate::frame::{Header, Record, END, HEADER_BYTES, MAGIC, MAX_HEIGHT, MAX_PAGES};
+use crate::frame::{OLD_VERSION, VERSION};
 use crate::name;
 use siftpebble::{Key, MAX_CODE, MAX_KEY, MAX_ROWS, MAX_WIDTH};
 use std::collections::HashSet;
@@ -53,17 +54,25 @@ fn lost(first: usize, last: usize) -> Option<String> {
     }
 }
 
+fn check_version(version: u8) -> Result<(), String> {
+    match version {
+        VERSION => Ok(()),
+        OLD_VERSION => Err(format!(
+            "it is a packed file of the old version {OLD_VERSION}, whose codes may end in FF: \
+             unpack it with an older sift, and pack it again with this one"
+        )),
+        other => Err(format!(
+            "its format is version {other}, and {VERSION} is known"
+        )),
+    }
+}
+
 fn header(bytes: &[u8]) -> Result<Header, String> {
     if !bytes.starts_with(MAGIC) {
         return Err("it is no packed file: it does not start with SIFT".into());
     }
-    match bytes.get(MAGIC.len()) {
-        Some(&VERSION) | None => (),
-        Some(other) => {
-            return Err(format!(
-                "its format is version {other}, and {VERSION} is known"
-            ))
-        }
+    if let Some(&version) = bytes.get(MAGIC.len()) {
+        check_version(version)?;
     }
     let Some(bytes) = bytes.get(..HEADER_BYTES) else {
         return Err("the file ends within its header".into());

@@ -6,7 +6,9 @@ use crate::pbm::row_bytes;
 use siftpebble::{Key, MAX_CODE, MAX_KEY, MAX_ROWS, MAX_WIDTH};
 
 pub const MAGIC: &[u8] = b"SIFT";
-pub const VERSION: u8 = 1;
+pub const VERSION: u8 = 2;
+/// The version before, whose codes may end in FF.
+pub const OLD_VERSION: u8 = 1;
 pub const END: &[u8] = b"END\n";
 pub const HEADER_BYTES: usize = 16;
 

@@ -4,7 +4,7 @@
 
 mod common;
 
-use common::{directory, header, packed, record, sift, Modelled, Ran, Sheet};
+use common::{crc32, directory, header, packed, record, sift, Modelled, Ran, Sheet};
 use siftpebble::{MAX_CODE, MAX_ROWS, MAX_WIDTH};
 use siftpebble_model::random::Random;
 use siftpebble_model::{sample, Key};
@@ -226,6 +226,22 @@ fn another_band_in_its_place_is_refused() {
                 the rows are not those that were packed: their checksum differs";
     let ran = unpack(&dir, &file).refused(1, &[said]);
     assert!(ran.stdout.is_empty());
+}
+
+/// A code that ends in FF, as version 1 of the format had it, and one with a
+/// 00 too many.
+#[test]
+fn a_wrong_end_of_a_code_is_refused() {
+    let dir = directory("code_end");
+    let sum = crc32(&[0xE6, 0x60]);
+    let codes: [&[u8]; 2] = [&[0x15, 0x6E, 0xFF], &[0x15, 0x6E, 0xFF, 0x00, 0x00]];
+    for code in codes {
+        let record = record(13, 1, b"a", &[code.len() as u16], sum);
+        let file = [&header(64, 1, 1, 1)[..], &record, code, b"END\n"].concat();
+        let said = "sift: standard input: page 1 (a), band 1: the code is damaged";
+        let ran = unpack(&dir, &file).refused(1, &[said]);
+        assert!(ran.stdout.is_empty());
+    }
 }
 
 #[test]

@@ -2,7 +2,7 @@
 
 mod common;
 
-use common::{crc32, directory, header, names, one_pel, record, sift};
+use common::{crc32, directory, header, names, one_pel, record, sift, summed};
 use siftpebble::{MAX_CODE, MAX_ROWS, MAX_ROW_BYTES, MAX_WIDTH};
 use std::path::Path;
 
@@ -232,15 +232,36 @@ fn refused(test: &str, file: &[u8], lines: &[&str]) -> Vec<u8> {
     ran.stdout
 }
 
+/// A file of one page, as another version of the format would have it.
+fn of_version(version: u8) -> Vec<u8> {
+    let file = one_pel(b"a");
+    let mut header = file[..12].to_vec();
+    header[4] = version;
+    [&summed(header), &file[16..]].concat()
+}
+
+/// Every job names the old version, even where nothing but that is there.
+#[test]
+fn files_of_the_old_version() {
+    let said = "it is a packed file of the old version 1, whose codes may end in FF: \
+                unpack it with an older sift, and pack it again with this one";
+    let old = of_version(1);
+    for file in [&old[..], &old[..5], b"SIFT\x01 and noise"] {
+        assert!(refused("old", file, &[said]).is_empty());
+    }
+    let dir = directory("of_now");
+    sift(&dir, &["show", "-"], &of_version(2)).fine();
+}
+
 #[test]
 fn headers_that_are_refused() {
     let no_file = "it is no packed file: it does not start with SIFT";
     refused("empty", b"", &[no_file]);
     refused("other", b"P4 1 1 \0", &[no_file]);
-    let mut newer = one_pel(b"a");
-    newer[4] = 2;
-    let said = "its format is version 2, and 1 is known";
-    refused("newer", &newer, &[said]);
+    for version in [0, 3, 255] {
+        let said = format!("its format is version {version}, and 2 is known");
+        refused("version", &of_version(version), &[&said]);
+    }
     let ends = "the file ends within its header";
     refused("short", b"SIFT", &[ends]);
     let limits = "the header has a number out of its limits";

@@ -194,6 +194,26 @@ fn the_highest_page() {
     assert!(through(&dir, &sheet.p4()) == sheet.p4());
 }
 
+/// Request E2: the code of this row would end in FF, so a 00 follows.
+#[test]
+fn a_last_ff_has_its_00() {
+    let dir = directory("last_ff");
+    let sheet = Sheet {
+        width: 13,
+        height: 1,
+        rows: vec![0xE6, 0x60],
+    };
+    let words = ["pack", "-", "-o", "-"];
+    let file = sift(&dir, &words, &sheet.p4()).fine().stdout;
+    assert!(file.ends_with(b"\x15\x6E\xFF\x00END\n"));
+    assert_eq!(file, packed(KEY, 64, &[("page.pbm", &sheet)]).file);
+    let shown = sift(&dir, &["show", "--bands", "-"], &file).fine();
+    let line = "band 1: rows 1, code bytes 4, S 12\n";
+    assert!(shown.text().contains(line));
+    let back = sift(&dir, &["unpack", "-", "-o", "-"], &file).fine();
+    assert_eq!(back.stdout, sheet.p4());
+}
+
 fn saving(raw: usize, code: usize) -> String {
     let (raw, code) = (raw as f64, code as f64);
     format!("{:.1}%", 100.0 * (raw - code) / raw)

@@ -159,7 +159,7 @@ pub fn summed(mut bytes: Vec<u8>) -> Vec<u8> {
 
 /// A header, right or not, with a right checksum.
 pub fn header(rows: u8, school: u16, class: u16, pages: u16) -> Vec<u8> {
-    let mut bytes = b"SIFT\x01".to_vec();
+    let mut bytes = b"SIFT\x02".to_vec();
     bytes.push(rows);
     for number in [school, class, pages] {
         bytes.extend(number.to_be_bytes());
