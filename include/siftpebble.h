@@ -152,7 +152,9 @@ struct siftpebble_answer siftpebble_open_read(struct siftpebble_desk *desk,
 /*
  * Writes a band of 1 to 64 rows: its code comes into the front of the lent
  * output, whose other bytes are kept. The pels are exactly rows x row bytes.
- * Answers the code's length and S.
+ * Where the last byte that the band's bits make is FF, one more byte 00
+ * follows; it is part of the code. So no code ends in FF.
+ * Answers the code's length, with that byte, and S.
  * Refusals: 12, 1, 6 (rows), 2, 7, 6 (pels), 8, 9.
  */
 struct siftpebble_answer siftpebble_write(struct siftpebble_desk *desk,
@@ -164,7 +166,7 @@ struct siftpebble_answer siftpebble_write(struct siftpebble_desk *desk,
 /*
  * Reads the code of a band of 1 to 64 rows: the rows come into the front of
  * the lent output, whose other bytes are kept. Answers the bytes of all rows
- * and S.
+ * and S. A code that ends in FF is damaged, since no band is written so.
  * Refusals: 12, 1, 6, 2, 7, 9, 10.
  */
 struct siftpebble_answer siftpebble_read(struct siftpebble_desk *desk,

@@ -1,15 +1,16 @@
 /*
- * A caller of the desk that is both C and C++: a page of two bands is written
- * for one class, and read back for another that starts from the same fresh
- * table. It writes each code as the cases of document 01 are written.
+ * A caller of the desk that is both C and C++: pages are written for one
+ * class, and read back for another that starts from the same fresh table. It
+ * writes each code as the cases of document 01 are written.
  */
 
 #include "siftpebble.h"
 
 #include <stdio.h>
 #include <stdlib.h>
+#include <string.h>
 
-enum { SCHOOL = 1, WRITER = 5, READER = 6, WIDTH = 1, ROOM = 16 };
+enum { SCHOOL = 1, WRITER = 5, READER = 6, ROOM = 16 };
 
 static void require(struct siftpebble_answer answer, const char *call)
 {
@@ -19,12 +20,20 @@ static void require(struct siftpebble_answer answer, const char *call)
     }
 }
 
-/* Writes a one-row band, reads it back, and prints its code and S. */
-static void send_band(struct siftpebble_desk *desk, const char *name, uint8_t pels)
+/* Opens a page of this width for the writer, and one for the reader. */
+static void open_both(struct siftpebble_desk *desk, uint64_t width)
+{
+    require(siftpebble_open_write(desk, SCHOOL, WRITER, width), "open write");
+    require(siftpebble_open_read(desk, SCHOOL, READER, width), "open read");
+}
+
+/* Writes a band of one row, reads it back, and prints its code and S. */
+static void send_band(struct siftpebble_desk *desk, const char *name,
+                      const uint8_t *pels, size_t bytes)
 {
     uint8_t code[ROOM], rows[ROOM];
     struct siftpebble_answer answer =
-        siftpebble_write(desk, SCHOOL, WRITER, 1, &pels, 1, code, sizeof code);
+        siftpebble_write(desk, SCHOOL, WRITER, 1, pels, bytes, code, sizeof code);
     size_t length = (size_t)answer.length;
     require(answer, "write");
     printf("%s:", name);
@@ -34,7 +43,7 @@ static void send_band(struct siftpebble_desk *desk, const char *name, uint8_t pe
 
     answer = siftpebble_read(desk, SCHOOL, READER, 1, code, length, rows, sizeof rows);
     require(answer, "read");
-    if (answer.length != 1 || rows[0] != pels) {
+    if (answer.length != bytes || memcmp(rows, pels, bytes) != 0) {
         fprintf(stderr, "%s: other pels\n", name);
         exit(EXIT_FAILURE);
     }
@@ -44,19 +53,21 @@ int main(void)
 {
     struct siftpebble_desk *desk =
         (struct siftpebble_desk *)malloc(siftpebble_desk_bytes());
+    const uint8_t white[] = {0x00}, thirteen[] = {0xE6, 0x60};
     uint8_t table[SIFTPEBBLE_TABLE_BYTES];
     if (desk == NULL)
         return EXIT_FAILURE;
     siftpebble_empty(desk);
-    require(siftpebble_open_write(desk, SCHOOL, WRITER, WIDTH), "open write");
-    require(siftpebble_open_read(desk, SCHOOL, READER, WIDTH), "open read");
-    send_band(desk, "P1", 0x00);
-    send_band(desk, "P7", 0x00);
+    open_both(desk, 1);
+    send_band(desk, "P1", white, sizeof white);
+    send_band(desk, "P7", white, sizeof white);
     require(siftpebble_close(desk, SCHOOL, WRITER), "close");
     require(siftpebble_abandon(desk, SCHOOL, READER), "abandon");
     require(siftpebble_look(desk, SCHOOL, WRITER, table, sizeof table), "look");
     printf("learned: %02X at context 0\n", table[0]);
     require(siftpebble_drop(desk, SCHOOL, WRITER), "drop");
+    open_both(desk, 13);
+    send_band(desk, "last FF", thirteen, sizeof thirteen);
     free(desk);
     return EXIT_SUCCESS;
 }

@@ -194,6 +194,10 @@ impl Desk {
     /// Writes a band of 1 to [`MAX_ROWS`] rows: its code comes into the front
     /// of `out`, and the rest of `out` is kept.
     ///
+    /// Where the last byte that the band's bits make is FF, one more byte 00
+    /// follows. It is part of the code: it counts in the length and needs its
+    /// room. So no code ends in FF.
+    ///
     /// `pels` are packed rows, the leftmost pel in the top bit, each row padded
     /// to a whole byte with zero bits. [`Refusal::NoRoom`] sets all of `out` to
     /// zero; every other refusal leaves it alone.
@@ -253,9 +257,10 @@ impl Desk {
     ///
     /// A code is [`Refusal::Damaged`] exactly when no band of that width and
     /// height would, from the page's working table and last row, have been
-    /// written as those bytes. The page stays open then, and the band may be
-    /// sent again. That refusal and [`Refusal::NoRoom`] set all of `out` to
-    /// zero; every other refusal leaves it alone.
+    /// written as those bytes; no band is written with FF as its last byte. The
+    /// page stays open then, and the band may be sent again. That refusal and
+    /// [`Refusal::NoRoom`] set all of `out` to zero; every other refusal leaves
+    /// it alone.
     ///
     /// ```
     /// # use siftpebble::{Desk, Key, Refusal};

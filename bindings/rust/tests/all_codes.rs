@@ -1,5 +1,6 @@
 //! From a new page, for every size of up to 8 pels: all codes of up to so many
 //! bytes are read, and exactly as many are accepted as bands are written so.
+//! The same of some longer codes, for a size at which one has a last FF.
 
 use siftpebble::{Desk, Key, Refusal};
 use std::collections::BTreeMap;
@@ -42,6 +43,18 @@ fn codes(width: usize, rows: usize) -> BTreeMap<Vec<u8>, Vec<u8>> {
     (0..1 << (width * rows)).map(write).collect()
 }
 
+/// The rows of a code, a byte each; none of a damaged one.
+fn read(desk: &mut Desk, rows: usize, code: &[u8]) -> Option<Vec<u8>> {
+    let mut out = [0; 8];
+    match desk.read(KEY, rows as u64, code, &mut out) {
+        Ok(_) => Some(out[..rows].to_vec()),
+        Err(refusal) => {
+            assert_eq!(refusal, Refusal::Damaged);
+            None
+        }
+    }
+}
+
 /// Reads every code of up to `bytes` bytes; answers how many were accepted.
 fn exactly_the_bands(width: usize, rows: usize, bytes: usize) -> usize {
     let codes = codes(width, rows);
@@ -52,17 +65,13 @@ fn exactly_the_bands(width: usize, rows: usize, bytes: usize) -> usize {
     );
     let mut desk = reading(width);
     let mut accepted = 0;
-    let mut out = [0; 8];
     for length in 0..=bytes {
         for number in 0..1u32 << (8 * length) {
             let code = &number.to_be_bytes()[4 - length..];
-            match desk.read(KEY, rows as u64, code, &mut out) {
-                Ok(_) => {
-                    assert_eq!(codes[code], out[..rows]);
-                    accepted += 1;
-                    desk = reading(width);
-                }
-                Err(refusal) => assert_eq!(refusal, Refusal::Damaged),
+            if let Some(pels) = read(&mut desk, rows, code) {
+                assert_eq!(codes[code], pels);
+                accepted += 1;
+                desk = reading(width);
             }
         }
     }
@@ -76,6 +85,37 @@ fn of_two_bytes() {
     for (width, rows) in sizes() {
         exactly_the_bands(width, rows, 2);
     }
+}
+
+/// 4 x 3 pels, where a code has a last FF: all codes of two bytes and one of
+/// these endings.
+#[test]
+fn of_two_bytes_and_an_ff() {
+    const ENDINGS: [&[u8]; 7] = [
+        &[0xFF],
+        &[0xFF, 0x00],
+        &[0xFF, 0x01],
+        &[0xFF, 0x7F],
+        &[0xFF, 0x80],
+        &[0xFF, 0xFF],
+        &[0xFF, 0x00, 0x00],
+    ];
+    let (width, rows) = (4, 3);
+    let mut codes = codes(width, rows);
+    codes.retain(|code, _| ENDINGS.contains(&&code[2..]));
+    assert!(codes.contains_key(&[0xE0, 0xBD, 0xFF, 0x00][..]));
+    let mut desk = reading(width);
+    let mut accepted = BTreeMap::new();
+    for front in 0..=u16::MAX {
+        for ending in ENDINGS {
+            let code = [&front.to_be_bytes(), ending].concat();
+            if let Some(pels) = read(&mut desk, rows, &code) {
+                accepted.insert(code, pels);
+                desk = reading(width);
+            }
+        }
+    }
+    assert_eq!(accepted, codes);
 }
 
 /// Minutes; by hand: `cargo test --release --test all_codes -- --ignored`.

@@ -5,7 +5,12 @@ use std::env;
 use std::path::{Path, PathBuf};
 use std::process::Command;
 
-const EXPECTED: &str = "P1: AC 10 S=2\nP7: A8 10 S=2\nlearned: 04 at context 0\n";
+const EXPECTED: &str = "\
+P1: AC 10 S=2
+P7: A8 10 S=2
+learned: 04 at context 0
+last FF: 15 6E FF 00 S=12
+";
 
 const HEADER: &str = include_str!("../../../include/siftpebble.h");
 

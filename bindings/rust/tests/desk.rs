@@ -54,6 +54,61 @@ fn p11_damaged_codes() {
     assert_eq!(out, [0x80, 0xA5, 0xA5]);
 }
 
+/// Request E2: where the last byte is FF, one more byte 00 follows.
+#[test]
+fn a_last_ff_has_its_00() {
+    let code = vec![0x15, 0x6E, 0xFF, 0x00];
+    assert_eq!(write(13, &[(1, &[0xE6, 0x60])]), (code, 12));
+    let code = vec![0xE0, 0xBD, 0xFF, 0x00];
+    assert_eq!(write(4, &[(3, &[0x30, 0x00, 0x00])]), (code, 12));
+    let code = vec![0xFF, 0x7F, 0xFF, 0x6A, 0xFF, 0x00];
+    assert_eq!(write(990, &[(1, &[0x00; 124])]), (code, 26));
+}
+
+/// The same bytes where the bits go on after the FF: nothing follows the 00.
+#[test]
+fn an_ff_before_the_last_byte() {
+    let code = vec![0x15, 0x6E, 0xFF, 0x00];
+    assert_eq!(write(14, &[(1, &[0xE6, 0x60])]), (code, 13));
+}
+
+/// The 00 counts in the length and needs its room.
+#[test]
+fn a_last_ff_into_four_bytes_and_three() {
+    let mut desk = Desk::new();
+    desk.open_write(KEY, 13).expect("an empty desk");
+    let mut three = [0xA5; 3];
+    let answer = desk.write(KEY, 1, &[0xE6, 0x60], &mut three);
+    assert_eq!((answer, three), (Err(Refusal::NoRoom), [0; 3]));
+    let mut four = [0xA5; 4];
+    let answer = desk.write(KEY, 1, &[0xE6, 0x60], &mut four);
+    let band = Band {
+        length: 4,
+        shifts: 12,
+    };
+    assert_eq!((answer, four), (Ok(band), [0x15, 0x6E, 0xFF, 0x00]));
+}
+
+/// A last FF without its 00, and with one 00 too many.
+#[test]
+fn a_wrong_end_is_damaged() {
+    let mut desk = Desk::new();
+    desk.open_read(KEY, 13).expect("an empty desk");
+    let codes: [&[u8]; 2] = [&[0x15, 0x6E, 0xFF], &[0x15, 0x6E, 0xFF, 0x00, 0x00]];
+    for code in codes {
+        let mut out = [0xA5; 3];
+        let answer = desk.read(KEY, 1, code, &mut out);
+        assert_eq!((answer, out), (Err(Refusal::Damaged), [0; 3]));
+    }
+    let mut out = [0xA5; 3];
+    let answer = desk.read(KEY, 1, &[0x15, 0x6E, 0xFF, 0x00], &mut out);
+    let band = Band {
+        length: 2,
+        shifts: 12,
+    };
+    assert_eq!((answer, out), (Ok(band), [0xE6, 0x60, 0xA5]));
+}
+
 #[test]
 fn looks() {
     let mut desk = Desk::new();

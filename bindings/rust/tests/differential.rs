@@ -9,7 +9,7 @@ mod common;
 use common::layout::{desk_image, desk_of, Image};
 use common::library::Library;
 use common::setting;
-use siftpebble_model::band::{self, row_bytes, MAX_CODE, MAX_ROWS, MAX_WIDTH};
+use siftpebble_model::band::{self, row_bytes, State, MAX_CODE, MAX_ROWS, MAX_WIDTH};
 use siftpebble_model::call::{Act, Answer, Call, Outcome, Serve};
 use siftpebble_model::coder::Watch;
 use siftpebble_model::cores::spread;
@@ -19,20 +19,33 @@ use siftpebble_model::{sample, Desk, Direction, Key, Page, Place, Refusal};
 use std::sync::Mutex;
 use std::time::Instant;
 
-/// The carries of one write.
+/// What is rare in a code.
 #[derive(Default)]
-struct Carries {
-    stuff: u64,
-    spent: u64,
+struct Rare {
+    stuff_carries: u64,
+    spent_carries: u64,
+    last_ffs: u64,
 }
 
-impl Watch for &mut Carries {
+impl Watch for &mut Rare {
     fn stuff_carry(&mut self) {
-        self.stuff += 1;
+        self.stuff_carries += 1;
     }
 
     fn spent_carry(&mut self) {
-        self.spent += 1;
+        self.spent_carries += 1;
+    }
+
+    fn last_ff(&mut self) {
+        self.last_ffs += 1;
+    }
+}
+
+impl std::ops::AddAssign for Rare {
+    fn add_assign(&mut self, more: Rare) {
+        self.stuff_carries += more.stuff_carries;
+        self.spent_carries += more.spent_carries;
+        self.last_ffs += more.last_ffs;
     }
 }
 
@@ -68,7 +81,7 @@ struct Report {
     /// For each kind of call the accepted ones, then the refused by number.
     answers: [[u64; NUMBERS]; KINDS.len()],
     ff_bytes: u64,
-    carries: Carries,
+    rare: Rare,
 }
 
 impl std::ops::AddAssign for Report {
@@ -78,8 +91,7 @@ impl std::ops::AddAssign for Report {
             *count += more;
         }
         self.ff_bytes += more.ff_bytes;
-        self.carries.stuff += more.carries.stuff;
-        self.carries.spent += more.carries.spent;
+        self.rare += more.rare;
     }
 }
 
@@ -94,8 +106,14 @@ impl Report {
         let mut lines = vec![("accepted calls".to_string(), all(0))];
         lines.extend((1..NUMBERS).map(|number| (format!("refusal {number}"), all(number))));
         lines.push(("FF bytes in codes".into(), self.ff_bytes));
-        lines.push(("carries into a stuff bit".into(), self.carries.stuff));
-        lines.push(("FE turned into FF by a carry".into(), self.carries.spent));
+        let Rare {
+            stuff_carries,
+            spent_carries,
+            last_ffs,
+        } = self.rare;
+        lines.push(("carries into a stuff bit".into(), stuff_carries));
+        lines.push(("FE turned into FF by a carry".into(), spent_carries));
+        lines.push(("00 after a last FF".into(), last_ffs));
         lines
     }
 
@@ -118,13 +136,12 @@ fn expected(desk: &mut Desk, call: &Call, report: &mut Report) -> Outcome {
         return desk.serve(call);
     };
     let mut lent = lent.clone();
-    let mut carries = Carries::default();
-    let result = desk.write_watched(call.key, *rows, pels, &mut lent, &mut carries);
+    let mut rare = Rare::default();
+    let result = desk.write_watched(call.key, *rows, pels, &mut lent, &mut rare);
     if let Ok(band) = result {
         let code = lent[..band.length].iter();
         report.ff_bytes += code.filter(|&&byte| byte == 0xFF).count() as u64;
-        report.carries.stuff += carries.stuff;
-        report.carries.spent += carries.spent;
+        report.rare += rare;
     }
     let answer = result.into();
     Outcome { answer, lent }
@@ -192,14 +209,14 @@ const KEY: Key = Key {
     class: 5,
 };
 
-/// A desk with one open page, from any table and last row.
-fn one_page(random: &mut Random, width: usize) -> Desk {
+/// A desk with one open page.
+fn one_page(width: usize, state: State) -> Desk {
     let mut desk = Desk::default();
     desk.pages[0] = Some(Page {
         key: KEY,
         direction: Direction::Write,
         width: width as u64,
-        state: sample::state(random, width),
+        state,
     });
     let learned = None;
     desk.places[0] = Some(Place { key: KEY, learned });
@@ -221,15 +238,21 @@ fn call_from(desk: &Desk, act: Act, report: &mut Report) {
     compare(&mut desk.clone(), &mut library, &call, report);
 }
 
+/// The code of a band on the desk's one open page.
+fn code_of(desk: &Desk, pels: &[u8]) -> Vec<u8> {
+    let page = desk.page(KEY).expect("an open page");
+    let (mut state, width) = (page.state.clone(), page.width as usize);
+    let mut code = vec![0; MAX_CODE];
+    let band = band::write(&mut state, width, pels, &mut code, ());
+    code.truncate(band.expect("room").length);
+    code
+}
+
 /// A band on a desk with one open page: written, read back, and read from
 /// spoiled codes.
 fn both_ways(random: &mut Random, desk: Desk, pels: Vec<u8>, report: &mut Report) {
-    let page = desk.page(KEY).expect("an open page");
-    let width = page.width as usize;
-    let mut code = vec![0; MAX_CODE];
-    let band = band::write(&mut page.state.clone(), width, &pels, &mut code, ());
-    code.truncate(band.expect("room").length);
-
+    let code = code_of(&desk, &pels);
+    let width = desk.page(KEY).expect("an open page").width as usize;
     let (rows, room) = ((pels.len() / row_bytes(width)) as u64, pels.len());
     let lent = random.bytes(code.len());
     let write = Act::Write { rows, pels, lent };
@@ -249,10 +272,9 @@ fn large_bands(seed: u64, times: u64, report: &mut Report) {
     for _ in 0..150 * times {
         let width = random.between(MAX_WIDTH / 2, MAX_WIDTH);
         let rows = random.between(MAX_ROWS / 2, MAX_ROWS);
-        let desk = one_page(&mut random, width);
-        let state = &desk.page(KEY).expect("an open page").state;
-        let pels = sample::band(&mut random, state, width, rows);
-        both_ways(&mut random, desk, pels, report);
+        let state = sample::state(&mut random, width);
+        let pels = sample::band(&mut random, &state, width, rows);
+        both_ways(&mut random, one_page(width, state), pels, report);
     }
 }
 
@@ -264,13 +286,38 @@ fn white_runs(seed: u64, times: u64, report: &mut Report) {
     for _ in 0..20_000 * times {
         let width = random.between(1, 300);
         let rows = random.between(1, 12);
-        let mut desk = one_page(&mut random, width);
-        let page = desk.pages[0].as_mut().expect("the open page");
-        page.state.table[0] = random.between(30, 59) as u8;
+        let mut state = sample::state(&mut random, width);
+        state.table[0] = random.between(30, 59) as u8;
         let last = sample::sparse(&mut random, width, 1);
-        page.state.last = [0; MAX_WIDTH / 8];
-        page.state.last[..last.len()].copy_from_slice(&last);
+        state.last = [0; MAX_WIDTH / 8];
+        state.last[..last.len()].copy_from_slice(&last);
         let pels = sample::sparse(&mut random, width, rows);
+        both_ways(&mut random, one_page(width, state), pels, report);
+    }
+}
+
+/// Rows whose code has a 00 after a last FF: written with room for all but
+/// that byte too, and read without it and with another one behind it.
+fn last_ffs(seed: u64, times: u64, report: &mut Report) {
+    let mut random = Random::new(seed);
+    for _ in 0..500 * times {
+        let (state, width, pels) = sample::last_ff(&mut random);
+        let desk = one_page(width, state);
+        let code = code_of(&desk, &pels);
+        let (rows, lent) = (1, random.bytes(code.len() - 1));
+        let short = Act::Write {
+            rows,
+            pels: pels.clone(),
+            lent,
+        };
+        call_from(&desk, short, report);
+        let without = code[..code.len() - 1].to_vec();
+        let behind = [&code[..], &[0x00]].concat();
+        for code in [without, behind] {
+            let lent = random.bytes(pels.len());
+            let read = Act::Read { rows, code, lent };
+            call_from(&to_be_read(desk.clone()), read, report);
+        }
         both_ways(&mut random, desk, pels, report);
     }
 }
@@ -330,11 +377,12 @@ fn misfits(seed: u64, times: u64, report: &mut Report) {
 type Part = (&'static str, u64, fn(u64, u64, &mut Report));
 
 /// The longest come first, so that the cores end at about one time.
-const PARTS: [Part; 6] = [
+const PARTS: [Part; 7] = [
     ("runs of calls", 0, runs_of_calls),
     ("calls on any lawful desk", 1, calls_on_any_desk),
     ("white runs", 5, white_runs),
     ("stray bits", 3, stray_bits),
+    ("last FF", 6, last_ffs),
     ("large bands", 2, large_bands),
     ("misfits", 4, misfits),
 ];
