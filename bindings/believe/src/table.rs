@@ -27,8 +27,9 @@ pub const THEOREMS: &[(&str, &[&str])] = &[
     // document 01: pels; the fresh table; the table of source document 000
     ("template", &["pel-bit"]),
     ("estimate", &["fresh-entry", "agrees"]),
-    // its bytes: at most 8F after an FF; their number; the length bound; 12 + S bits
-    ("band", &["code-lawful", "code-value", "code-length", "code-covers"]),
+    // its bytes: at most 8F after an FF; their number; 12 + S bits, and what follows; the length law; the end told
+    ("band", &["code-lawful", "code-value", "code-covers", "code-length", "code-one", "code-last"]),
+    ("unique", &["end-told"]),
     // its refusals: their order; a lawful desk stays lawful; what other keys and looks see
     ("desk", &["in-order"]),
     ("kept", &["empty-lawful", "call-lawful", "call-keeps", "call-leaves", "band-tables", "band-looks"]),

@@ -1,18 +1,19 @@
 -- What holds of every written band, for every table, last row and pels: its bytes, its value, its length. Assumes
 -- nothing.
 use mathlib.Core.Path.{_≡_, refl, sym, ap, subst, subst₂}
-use Prim.Native.Nat.{ℕ, _+_, _-_, _*_, _/_, _^_, _≤_}
+use mathlib.Core.Logic.{_≢_}
+use Prim.Native.Nat.{ℕ, _+_, _*_, _^_}
 use mathlib.Core.List.{List, [], _∷_}
-use lib.ListN.{length}
 use Rattle.coder.specs.Writing.{Stage, step, after}
 use Rattle.coder.specs.Page.{size}
 use Rattle.estimate.proofs.LawfulEntries.{row-sized}
 use Rattle.interval.specs.Interval.{whole}
 use Rattle.octets.specs.Octets.{Registers, run}
 use Rattle.octets.proofs.Fit.{AllSized}
-use Rattle.exact.specs.Value.{LawfulBytes, need, value, places, exact}
+use Rattle.exact.specs.Value.{LawfulBytes, Made, LengthLaw, lastOf, value, places, exact}
 use Rattle.exact.proofs.Codes.{coded, value-written, length-law}
 use Rattle.exact.proofs.Codes as exactly
+use Rattle.exact.proofs.Follows.{one-made, last-not-ff}
 use Rattle.template.specs.Pels.{bandTo}
 use Rattle.band.specs.Band.{qWriter, qPage, written}
 use Rattle.band.specs.Decisions.{decisions, opened, decided}
@@ -58,19 +59,26 @@ module _ (width rows : ℕ) (table last band : List ℕ) where
   code-value = subst₂ (λ (c : List ℕ) (s : ℕ). value c * 2 ^ (12 + s) ≡ exact (decided width rows table last band)
       whole .low * 2 ^ places 0 c) code-is shifts-is (value-written (decided width rows table last band) sizes)
 
-  -- For n of 2 or more, 8(n-1) less the whole half of (n-1) is at most 11 + S: what a band can cost, given S.
-  pub code-length : 2 ≤ length (written width rows table last band .code)
-      → 8 * (length (written width rows table last band .code) - 1) -
-      (length (written width rows table last band .code) - 1) / 2 ≤ 11 + written width rows table last band .shifts
-  code-length =
-      subst₂ (λ (c : List ℕ) (s : ℕ). 2 ≤ length c → 8 * (length c - 1) - (length c - 1) / 2 ≤ 11 + s) code-is
-      shifts-is (length-law (decided width rows table last band) sizes)
-
-  -- the bytes cover all 12 + S bits; without the last of them they would not
-  pub code-covers : (12 + written width rows table last band .shifts ≤ places 0
-      (written width rows table last band .code))
-      × (need 0 (written width rows table last band .code) ≤ 12 + written width rows table last band .shifts)
+  -- the bytes that were made cover all 12 + S bits, and without the last of them they would not; after a last FF a
+  -- byte 00 follows, and nothing else does
+  pub code-covers : (made : List ℕ)
+      × Made (written width rows table last band .shifts) (written width rows table last band .code) made
   code-covers =
       let c = coded (decided width rows table last band) sizes in
-      subst₂ (λ (l : List ℕ) (s : ℕ). (12 + s ≤ places 0 l) × (need 0 l ≤ 12 + s)) code-is shifts-is
-      (c .covers, c .wanted)
+      subst₂ (λ (l : List ℕ) (s : ℕ). (made : List ℕ) × Made s l made) code-is shifts-is (c .made, c .is)
+
+  -- what a band can cost, given S
+  pub code-length : (made : List ℕ)
+      → Made (written width rows table last band .shifts) (written width rows table last band .code) made
+      → LengthLaw (written width rows table last band .shifts) (written width rows table last band .code) made
+  code-length made m = length-law _ _ made m code-lawful
+
+  -- S tells which bytes were made: a 00 that the bits needed and one that follows an FF are not confused
+  pub code-one : (xs ys : List ℕ)
+      → Made (written width rows table last band .shifts) (written width rows table last band .code) xs
+      → Made (written width rows table last band .shifts) (written width rows table last band .code) ys → xs ≡ ys
+  code-one = one-made _ _
+
+  -- no code ends in FF
+  pub code-last : lastOf 0 (written width rows table last band .code) ≢ 255
+  code-last = last-not-ff _ _ (code-covers .0) (code-covers .1)

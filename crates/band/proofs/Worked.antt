@@ -8,7 +8,8 @@ use lib.ListN.{getD, length}
 use Rattle.coder.specs.Writing.{after, bandCode}
 use Rattle.coder.specs.Page.{contextOf, entryAt, size, sense, taught, placed, move}
 use Rattle.estimate.specs.Estimate.{rowOf, rise, fall, flip, next, fresh}
-use Rattle.octets.specs.Octets.{bits, carried, left, byte, due, shifts, pads, cover, finish, bytes, code}
+use Rattle.octets.specs.Octets.{bits, carried, left, byte, due, shifts, pads, cover, finish, bytes, follows, ended}
+use Rattle.octets.specs.Octets.{code}
 use Rattle.template.specs.Pels.{rowAt, pelAt, pelsTo, bandTo, leftOf, rightOf, context}
 use Rattle.template.proofs.Sliding.{pel-bit}
 use Rattle.band.specs.Band.{written, lastRow, white, qWriter, qPage, pageAt}
@@ -20,7 +21,8 @@ pelCode p = bandCode (qPage 1) qWriter (pageAt 1 (new .table) (new .last)) (p �
 
 two-codes : (p : ℕ) → p ≤ 1 → (pelCode p ≡ 0xAC ∷ 0x10 ∷ []) ⊎ (pelCode p ≡ 0x00 ∷ 0x00 ∷ [])
 unfolding written lastRow white after contextOf entryAt size sense taught placed move rowOf rise fall flip next fresh
-    bits carried left byte due shifts pads cover finish bytes code pelAt pelsTo bandTo leftOf rightOf context
+    bits carried left byte due shifts pads cover finish bytes follows ended code pelAt pelsTo bandTo leftOf rightOf
+    context
 two-codes zero h = inl refl
 two-codes (suc zero) h = inr refl
 two-codes (suc (suc n)) h = absurd (omega arith)
@@ -55,7 +57,8 @@ none = one-pel [] (longer 0 2 _ _ refl refl (λ e. omega arith)) (longer 0 2 _ _
 -- the single claim: every row of the table holds
 pub worked : All cases
 unfolding written lastRow white after contextOf entryAt size sense taught placed move rowOf rise fall flip next fresh
-    bits carried left byte due shifts pads cover finish bytes code pelAt pelsTo bandTo leftOf rightOf context
+    bits carried left byte due shifts pads cover finish bytes follows ended code pelAt pelsTo bandTo leftOf rightOf
+    context
 worked = (
   (refl, refl),
   (

@@ -16,8 +16,9 @@ fn width_line(name: &[u8], width: u64) {
     lines::line(name, opened.answer);
 }
 
-// An empty desk with a page of width 1 for (school 1, class 1).
+// An empty desk with a page of that width for (school 1, class 1).
 fn new_page<'a>(
+    width: u64,
     working: &'a mut [[u8; CONTEXTS]; PAGES],
     rows: &'a mut [[u8; ROW]; PAGES],
     learned: &'a mut [[u8; CONTEXTS]; PLACES],
@@ -30,7 +31,7 @@ fn new_page<'a>(
         working,
         rows,
         learned,
-        lines::page_of(lines::key_of(1, 1), 1),
+        lines::page_of(lines::key_of(1, 1), width),
     );
     opened.book
 }
@@ -40,7 +41,7 @@ fn rows_line(name: &[u8], count: u64) {
     let mut working = [[0u8; CONTEXTS]; PAGES];
     let mut rows = [[0u8; ROW]; PAGES];
     let mut learned = [[0u8; CONTEXTS]; PLACES];
-    let book = new_page(&mut working, &mut rows, &mut learned);
+    let book = new_page(1, &mut working, &mut rows, &mut learned);
     let pels = [0u8; 65];
     let mut out = [0u8; 64];
     let ask = lines::band_of(lines::key_of(1, 1), count);
@@ -98,22 +99,14 @@ fn one_more(name: &[u8], n: u64, closed: bool) {
     lines::line(name, opened.answer);
 }
 
-// P1 into a buffer, which is then shown.
-fn buffer_line(name: &[u8], out: &mut [u8]) {
+// A row on a new page of that width, into a buffer, which is then shown.
+fn buffer_line(name: &[u8], width: u64, row: &[u8], out: &mut [u8]) {
     let mut working = [[0u8; CONTEXTS]; PAGES];
     let mut rows = [[0u8; ROW]; PAGES];
     let mut learned = [[0u8; CONTEXTS]; PLACES];
-    let book = new_page(&mut working, &mut rows, &mut learned);
+    let book = new_page(width, &mut working, &mut rows, &mut learned);
     let ask = lines::band_of(lines::key_of(1, 1), 1);
-    let wrote = writing::write(
-        book,
-        &mut working,
-        &mut rows,
-        &mut learned,
-        ask,
-        b"\x00",
-        out,
-    );
+    let wrote = writing::write(book, &mut working, &mut rows, &mut learned, ask, row, out);
     lines::put_text(name);
     lines::put_answer(wrote.answer);
     lines::put_text(b", buffer");
@@ -131,7 +124,11 @@ fn main() {
     one_more(b"Eighth class", 7, true);
     one_more(b"Ninth class", 8, true);
     let mut both = [255u8; 2];
-    buffer_line(b"P1 into 2 bytes", &mut both);
+    buffer_line(b"P1 into 2 bytes", 1, b"\x00", &mut both);
     let mut short = [255u8; 1];
-    buffer_line(b"P1 into 1 byte", &mut short);
+    buffer_line(b"P1 into 1 byte", 1, b"\x00", &mut short);
+    let mut four = [255u8; 4];
+    buffer_line(b"E6 60 into 4 bytes", 13, b"\xE6\x60", &mut four);
+    let mut three = [255u8; 3];
+    buffer_line(b"E6 60 into 3 bytes", 13, b"\xE6\x60", &mut three);
 }

@@ -1,4 +1,5 @@
-// Codes read as one row of width 1 on a new page: two are codes of a band, every other is damaged.
+// Codes read as one row on a new page. Of width 1, two are codes of a band and every other is damaged; of width 13, a
+// code whose last FF a byte 00 follows.
 ghost use Rattle.parts.specs.Parts.{Sized};
 use desk::Ask;
 use desk::Direction;
@@ -17,8 +18,9 @@ fn the_key() -> Key {
     }
 }
 
-// An empty desk with a page of width 1, open to read.
+// An empty desk with a page of that width, open to read.
 fn new_page<'a>(
+    width: u64,
     working: &'a mut [[u8; CONTEXTS]; PAGES],
     rows: &'a mut [[u8; ROW]; PAGES],
     learned: &'a mut [[u8; CONTEXTS]; PLACES],
@@ -29,7 +31,7 @@ fn new_page<'a>(
     let ask = Opening {
         key: the_key(),
         direction: Direction::Read,
-        width: 1,
+        width: width,
     };
     let opened = opening::open(book, working, rows, learned, ask);
     opened.book
@@ -62,13 +64,18 @@ fn line<'a, 'b, 'c>(
     read.book
 }
 
-// A code on a new page.
-fn first(name: &[u8], code: &[u8]) {
+// A code on a new page of that width.
+fn of_width(width: u64, name: &[u8], code: &[u8]) {
     let mut working = [[0u8; CONTEXTS]; PAGES];
     let mut rows = [[0u8; ROW]; PAGES];
     let mut learned = [[0u8; CONTEXTS]; PLACES];
-    let book = new_page(&mut working, &mut rows, &mut learned);
+    let book = new_page(width, &mut working, &mut rows, &mut learned);
     line(name, book, &mut working, &mut rows, &mut learned, code);
+}
+
+// A code on a new page of width 1.
+fn first(name: &[u8], code: &[u8]) {
+    of_width(1, name, code);
 }
 
 // P1's code with one bit flipped, at each of its 16 positions.
@@ -90,7 +97,7 @@ fn sent_again() {
     let mut working = [[0u8; CONTEXTS]; PAGES];
     let mut rows = [[0u8; ROW]; PAGES];
     let mut learned = [[0u8; CONTEXTS]; PLACES];
-    let a = new_page(&mut working, &mut rows, &mut learned);
+    let a = new_page(1, &mut working, &mut rows, &mut learned);
     let b = line(
         b"Damaged on its way,",
         a,
@@ -122,4 +129,7 @@ fn main() {
     first(b"P1, FF 90 in it,", b"\xAC\xFF\x90\x10");
     first(b"P1, FF 90 after it,", b"\xAC\x10\xFF\x90");
     sent_again();
+    of_width(13, b"E6 60 in 13 pels,", b"\x15\x6E\xFF\x00");
+    of_width(13, b"E6 60, FF not followed by 00,", b"\x15\x6E\xFF");
+    of_width(13, b"E6 60, a zero byte more,", b"\x15\x6E\xFF\x00\x00");
 }

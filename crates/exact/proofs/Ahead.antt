@@ -2,29 +2,31 @@
 -- interval, the bytes are lawful, and none is missing or in vain. All by going back from the end, one small step at a
 -- time; fractions are compared multiplied out. Assumes nothing.
 use mathlib.Core.Path.{_≡_, refl, sym, ap, _∙_, subst}
+use mathlib.Core.Logic.{⊎-elim}
 use Prim.Native.Nat.{ℕ, zero, suc, _+_, _-_, _*_, _^_, _≤_, _<_}
 use native.Mathlib.Nat.{mul-le-mul-right, pos-of-ne-zero}
 use native.Mathlib.Omega.{arith}
-use mathlib.Core.List.{List, [], _∷_, _++_, append-assoc}
+use mathlib.Core.List.{List, [], _∷_, _++_, append-assoc, append-nil}
 use lib.ListN.{take}
 use lib.Dec.{eqb, eqb→eq}
 use lib.Pow.{pow-pos}
-use Rattle.ground.proofs.Tests.{by-cond, neqb→ne}
+use Rattle.ground.proofs.Tests.{by-cond, neqb→ne, same?, if-ne}
 use Rattle.octets.specs.Unit.{unit}
 use Rattle.octets.proofs.Unit.{unit-pred, unit-zero, unit-pos}
 use Rattle.interval.specs.declared.Interval.{Interval}
-use Rattle.octets.specs.Octets.{Registers, bits, carried, byte, double, pad, pads, lastByte, cover, bytes}
+use Rattle.octets.specs.Octets.{Registers, bits, carried, byte, double, pad, pads, lastByte, cover, bytes, follows}
+use Rattle.octets.specs.Octets.{ended}
 use Rattle.octets.proofs.Fit.{upper, lower, Byte, made, byte-until, byte-few, byte-scale}
 use Rattle.octets.specs.Fit.{Fit, Rest}
 use Rattle.octets.proofs.Ending.{Filled, filled, fit-pad, rest-last}
-use Rattle.exact.specs.Value.{LawfulBytes, need, value, places}
-use Rattle.exact.proofs.Value.{value-one, value-cons, places-cons, head-le}
+use Rattle.exact.specs.Value.{LawfulBytes, lastOf, need, value, places}
+use Rattle.exact.proofs.Value.{value-one, value-cons, places-cons, places-more, head-le}
 use Rattle.exact.proofs.End.{Tail, tail-last}
 use Rattle.exact.proofs.Back.{half-floor, half-prefix, half-roof, half-roof-pad, upper-floor, upper-prefix}
 use Rattle.exact.proofs.Back.{lower-roof, byte-floor, byte-prefix, byte-roof, stuffed}
 
--- From w on, the code `all` goes on with b, which is the held byte or one more, and then bs; they cover n bits and none
--- is in vain.
+-- From w on, the code `all` goes on with b, which is the held byte or one more, and then bs: the bytes made, which
+-- cover n bits and of which none is in vain, and what follows the last.
 -- floor and roof: the value of b and bs lies in w's interval. prefix: a part of bs that is not empty falls short by
 -- less than its last unit.
 pub record Ahead (w : Registers) (all : List ℕ) (n : ℕ) : Type 0 where
@@ -36,13 +38,19 @@ pub record Ahead (w : Registers) (all : List ℕ) (n : ℕ) : Type 0 where
   pub top : b ≤ 255
   pub full : w .held ≡ 255 → b ≡ 255
   pub lawful : LawfulBytes b bs
-  pub covers : n ≤ places b bs
-  pub wanted : need b bs ≤ n
+  pub made : List ℕ
+  pub split : bs ≡ made ++ follows (lastOf b made)
+  pub covers : n ≤ places b made
+  pub wanted : need b made ≤ n
   pub floor : (w .held * unit (w .until) + w .interval .low) * 2 ^ places b bs ≤ value (b ∷ bs) * unit (w .until)
   pub roof : value (b ∷ bs) * unit (w .until) < (w .held * unit (w .until) + w .interval .low + w .interval .width) * 2
       ^ places b bs
   pub prefix : (k : ℕ) → (w .held * unit (w .until) + w .interval .low) * 2 ^ places b (take (suc k) bs) <
       (value (b ∷ take (suc k) bs) + 1) * unit (w .until)
+
+pub ahead-covers : (w : Registers) (all : List ℕ) (n : ℕ) (i : Ahead w all n) → n ≤ places (i .b) (i .bs)
+ahead-covers w all n i =
+    rw (i .split) (omega (arith, i .covers, places-more (i .b) (i .made) (follows (lastOf (i .b) (i .made)))))
 
 -- ---- a step back that leaves the bytes as they are: the bounds are all that changes
 module _ (w : Registers) (j : Interval) (t : ℕ) (all : List ℕ) (n : ℕ)
@@ -64,6 +72,8 @@ module _ (w : Registers) (j : Interval) (t : ℕ) (all : List ℕ) (n : ℕ)
         top = i .top;
         full = i .full;
         lawful = i .lawful;
+        made = i .made;
+        split = i .split;
         covers = i .covers;
         wanted = i .wanted;
         floor = floor;
@@ -183,9 +193,11 @@ module _ (w : Registers) (all : List ℕ) (n : ℕ) (z : w .until ≡ 0) (m : By
               (head-le (i .b) (i .bs)) roof-now (m .stuff y)),
           i .lawful,
         );
-        covers = covers-cons B (i .b) (i .bs) n (subst (λ (k : ℕ). n - k ≤ places (i .b) (i .bs)) (byte-until w)
+        made = i .b ∷ i .made;
+        split = ap (λ (l : List ℕ). i .b ∷ l) (i .split);
+        covers = covers-cons B (i .b) (i .made) n (subst (λ (k : ℕ). n - k ≤ places (i .b) (i .made)) (byte-until w)
             (i .covers));
-        wanted = need-cons B (i .b) (i .bs) n h (subst (λ (k : ℕ). need (i .b) (i .bs) ≤ n - k) (byte-until w)
+        wanted = need-cons B (i .b) (i .made) n h (subst (λ (k : ℕ). need (i .b) (i .made) ≤ n - k) (byte-until w)
             (i .wanted));
         floor = rw (due-unit, places-cons B (i .b) (i .bs), value-cons B (i .b) (i .bs), ← byte-until w)
             (byte-floor (w .held) (w .interval .low) B (byte w .held) (byte w .interval .low) p u K X (m .whole)
@@ -215,31 +227,68 @@ ahead-last w all n r h i =
     let k : Filled (pads (w .until) w) = filled (w .until) w (r .fit) refl in
     ahead-pads (w .until) w all n (r .fit) refl (ahead-byte (pads (w .until) w) all n (k .fit) (k .due) h i)
 
-ahead-stop : (w : Registers) (r : ℕ) → Rest w → r ≡ 0 → w .interval .low ≡ 0 → Ahead w (bytes w) r
-unfolding bytes value places need
-ahead-stop w r f z e =
-    let p : 1 ≤ unit (w .until) = unit-pos (w .until) in
-    record {
-      b = w .held;
-      bs = [];
-      joined = refl;
-      least = omega arith;
-      most = omega arith;
-      top = f .fit .octet;
-      full = λ y. y;
-      lawful = tt;
-      covers = omega arith;
-      wanted = omega arith;
-      floor = omega arith;
-      roof = omega (arith, f .fit .some);
-      prefix = λ k. omega arith;
-    }
+take-none : (k : ℕ) → take {A = ℕ} k [] ≡ []
+take-none zero = refl
+take-none (suc k) = refl
 
-pub ahead-cover : (j r : ℕ) (w : Registers) → Rest w → Tail r w → r ≤ 7 * j → Ahead w (bytes (cover j r w)) r
+-- nothing is left: the held byte is the last
+module _ (w : Registers) (r : ℕ) (f : Rest w) (z : r ≡ 0) (e : w .interval .low ≡ 0) where
+  bare : follows (w .held) ≡ [] → Ahead w (ended w) r
+  unfolding ended bytes value places need
+  bare n =
+      let p : 1 ≤ unit (w .until) = unit-pos (w .until) in
+      record {
+        b = w .held;
+        bs = [];
+        joined = ap (λ (l : List ℕ). w .settled ++ (w .held ∷ []) ++ l) n ∙ append-nil (w .settled ++ (w .held ∷ []));
+        least = omega arith;
+        most = omega arith;
+        top = f .fit .octet;
+        full = λ y. y;
+        lawful = tt;
+        made = [];
+        split = sym n;
+        covers = omega arith;
+        wanted = omega arith;
+        floor = omega arith;
+        roof = omega (arith, f .fit .some);
+        prefix = λ k. omega arith;
+      }
+
+  -- it is FF: a byte 00 follows, which brings seven zeros
+  stuffed-end : w .held ≡ 255 → Ahead w (ended w) r
+  unfolding ended bytes value places need follows bits
+  stuffed-end h =
+      let p : 1 ≤ unit (w .until) = unit-pos (w .until) in
+      let k : follows (w .held) ≡ 0 ∷ [] = ap follows h in
+      record {
+        b = w .held;
+        bs = 0 ∷ [];
+        joined = ap (λ (l : List ℕ). w .settled ++ (w .held ∷ []) ++ l) k ∙ append-assoc (w .settled) (w .held ∷ [])
+            (0 ∷ []);
+        least = omega arith;
+        most = omega arith;
+        top = f .fit .octet;
+        full = λ y. y;
+        lawful = (omega arith, λ y. omega arith, tt);
+        made = [];
+        split = sym k;
+        covers = omega arith;
+        wanted = omega arith;
+        floor = rw h (omega arith);
+        roof = rw h (omega (arith, f .fit .some));
+        prefix = λ k. rw (h, take-none k) (omega arith);
+      }
+
+  ahead-stop : Ahead w (ended w) r
+  unfolding follows
+  ahead-stop = ⊎-elim stuffed-end (λ n. bare (if-ne (w .held) 255 (0 ∷ []) [] n)) (same? (w .held) 255)
+
+pub ahead-cover : (j r : ℕ) (w : Registers) → Rest w → Tail r w → r ≤ 7 * j → Ahead w (ended (cover j r w)) r
 unfolding cover
 ahead-cover zero r w f k h = ahead-stop w r f (omega arith) (k .clear (omega arith))
 ahead-cover (suc j) r w f k h =
-    by-cond (λ (v : Registers). Ahead w (bytes v) r) (eqb r 0) w (cover j (r - lastByte w .until) (lastByte w))
+    by-cond (λ (v : Registers). Ahead w (ended v) r) (eqb r 0) w (cover j (r - lastByte w .until) (lastByte w))
     (λ t. ahead-stop w r f (eqb→eq r 0 t) (k .clear (eqb→eq r 0 t)))
     (λ t. ahead-last w _ r f (pos-of-ne-zero (neqb→ne r 0 t))
     (ahead-cover j (r - lastByte w .until) (lastByte w) (rest-last w f) (tail-last r w f k)

@@ -1,19 +1,20 @@
 -- What is said of every written code: its bytes, its value, its length. Assumes nothing.
 use mathlib.Core.Path.{_≡_, refl, sym, ap, _∙_, subst, subst₂}
 use mathlib.Core.Logic.{_≢_, _⊎_, inl, inr}
-use Prim.Native.Nat.{ℕ, _+_, _-_, _*_, _/_, _^_, _≤_, _<_}
+use Prim.Native.Nat.{ℕ, suc, _+_, _-_, _*_, _/_, _^_, _≤_, _<_}
 use native.Mathlib.Nat.{lt-of-mul-lt-mul-right}
 use native.Mathlib.Omega.{arith}
-use mathlib.Core.List.{List, [], _∷_}
-use lib.ListN.{drop, length}
+use mathlib.Core.List.{List, [], _∷_, _++_, append-nil}
+use lib.ListN.{drop, length, length-append}
+use lib.Dec.{eqb}
 use lib.Pow.{pow-add}
-use Rattle.ground.proofs.Tests.{same?}
+use Rattle.ground.proofs.Tests.{by-cond, neqb→ne, same?}
 use Rattle.octets.specs.Unit.{unit}
 use Rattle.interval.specs.Interval.{Decision, whole}
-use Rattle.octets.specs.Octets.{Registers, start, bits, run, finish, bytes, code}
+use Rattle.octets.specs.Octets.{Registers, start, bits, run, finish, follows, ended, code}
 use Rattle.octets.specs.Fit.{Ready}
 use Rattle.octets.proofs.Fit.{AllSized, ready-run, ready-start, bits-ff, bits-else}
-use Rattle.exact.specs.Value.{LawfulBytes, need, value, places, exact}
+use Rattle.exact.specs.Value.{LawfulBytes, Made, LengthRule, LengthLaw, lastOf, need, value, places, exact}
 use Rattle.exact.proofs.Value.{head-le}
 use Rattle.exact.proofs.Agree.{same-run, same-start}
 use Rattle.exact.proofs.End.{value-run}
@@ -28,11 +29,11 @@ unfoldable pub counted : List Decision → ℕ
 counted ds = run ds start .interval .count
 
 -- of any state w and any decisions that follow: w's settled bytes begin the code, and Ahead says how it goes on
-extension : (es : List Decision) (w : Registers) → Ready w → AllSized es → Going w (bytes (finish (run es w)))
+extension : (es : List Decision) (w : Registers) → Ready w → AllSized es → Going w (ended (finish (run es w)))
     (run es w .interval .count)
 extension es w r z = going-run es w _ _ z r (going-end (run es w) (ready-run es w z r .rest))
 
-going-start : (ds : List Decision) → AllSized ds → Going start (bytes (finish (run ds start))) (counted ds)
+going-start : (ds : List Decision) → AllSized ds → Going start (ended (finish (run ds start))) (counted ds)
 unfolding counted
 going-start ds z = extension ds start ready-start z
 
@@ -47,30 +48,34 @@ ahead-zero : (all : List ℕ) (n : ℕ) (i : Ahead start all n) → i .b ≡ 0
 unfolding unit
 ahead-zero all n i = first (i .b) (2 ^ places (i .b) (i .bs)) (value (i .b ∷ i .bs)) (head-le (i .b) (i .bs)) (i .roof)
 
-pub code-bytes : (ds : List Decision) → AllSized ds → bytes (finish (run ds start)) ≡ 0 ∷ written ds
+pub code-bytes : (ds : List Decision) → AllSized ds → ended (finish (run ds start)) ≡ 0 ∷ written ds
 unfolding written code
 code-bytes ds z =
-    let g : Going start (bytes (finish (run ds start))) (counted ds) = going-start ds z in
-    let e : bytes (finish (run ds start)) ≡ 0 ∷ g .ahead .bs = g .ahead .joined ∙ ap (λ (x : ℕ). x ∷ g .ahead .bs)
+    let g : Going start (ended (finish (run ds start))) (counted ds) = going-start ds z in
+    let e : ended (finish (run ds start)) ≡ 0 ∷ g .ahead .bs = g .ahead .joined ∙ ap (λ (x : ℕ). x ∷ g .ahead .bs)
     (ahead-zero _ _ (g .ahead)) in
     e ∙ ap (λ (l : List ℕ). 0 ∷ drop 1 l) (sym e)
 
--- the code from the start, with the bytes of the code itself
-pub record Coded (ds : List Decision) (code : List ℕ) (S : ℕ) : Type 0 where
+-- the code from the start: its bytes, and which of them were made to cover its bits
+pub record Coded (code : List ℕ) (S : ℕ) : Type 0 where
   pub lawful : LawfulBytes 0 code
-  pub covers : 12 + S ≤ places 0 code
-  pub wanted : need 0 code ≤ 12 + S
+  pub made : List ℕ
+  pub is : Made S code made
 
-pub coded : (ds : List Decision) → AllSized ds → Coded ds (written ds) (counted ds)
+pub coded : (ds : List Decision) → AllSized ds → Coded (written ds) (counted ds)
 coded ds z =
-    let g : Going start (bytes (finish (run ds start))) (counted ds) = going-start ds z in
-    let i : Ahead start (bytes (finish (run ds start))) (g .n) = g .ahead in
+    let g : Going start (ended (finish (run ds start))) (counted ds) = going-start ds z in
+    let i : Ahead start (ended (finish (run ds start))) (g .n) = g .ahead in
     let b0 : i .b ≡ 0 = ahead-zero _ _ i in
     let e : i .bs ≡ written ds = ap (λ (l : List ℕ). drop 1 l) (sym (i .joined) ∙ code-bytes ds z) in
     record {
       lawful = subst₂ (λ (b : ℕ) (l : List ℕ). LawfulBytes b l) b0 e (i .lawful);
-      covers = subst₂ (λ (b : ℕ) (l : List ℕ). 12 + counted ds ≤ places b l) b0 e (omega (arith, i .covers, g .togo));
-      wanted = subst₂ (λ (b : ℕ) (l : List ℕ). need b l ≤ 12 + counted ds) b0 e (omega (arith, i .wanted, g .togo));
+      made = i .made;
+      is = record {
+        covers = subst (λ (b : ℕ). 12 + counted ds ≤ places b (i .made)) b0 (omega (arith, i .covers, g .togo));
+        wanted = subst (λ (b : ℕ). need b (i .made) ≤ 12 + counted ds) b0 (omega (arith, i .wanted, g .togo));
+        joined = sym e ∙ subst (λ (b : ℕ). i .bs ≡ i .made ++ follows (lastOf b (i .made))) b0 (i .split);
+      };
     }
 
 -- ---- the value of the code is the final lower end, exactly
@@ -130,11 +135,29 @@ length-need b d (e ∷ es) l =
     either (inl y) i = let small : d ≤ 143 = l .1 y in omega (arith, i .0 (omega arith), bits-ff b y)
     either (inr y) i = omega (arith, i .1, bits-else b y)
 
-pub length-law : (ds : List Decision) → AllSized ds → 2 ≤ length (written ds)
-    → 8 * (length (written ds) - 1) - (length (written ds) - 1) / 2 ≤ 11 + counted ds
-length-law ds z = go (written ds) (coded ds z)
-  where
-    go : (l : List ℕ) → Coded ds l (counted ds) → 2 ≤ length l → 8 * (length l - 1) - (length l - 1) / 2 ≤ 11
-        + counted ds
-    go [] c h = omega arith
-    go (d ∷ ds) c h = omega (arith, c .wanted, length-need 0 d ds (c .lawful) .0 (omega arith))
+lawful-front : (b : ℕ) (xs ys : List ℕ) → LawfulBytes b (xs ++ ys) → LawfulBytes b xs
+lawful-front b [] ys l = tt
+lawful-front b (x ∷ xs) ys l = (l .0, l .1, lawful-front x xs ys (l .2))
+
+module _ (S : ℕ) (code made : List ℕ) (m : Made S code made) where
+  made-length : LawfulBytes 0 code → LengthRule (length made) S
+  made-length l = go made (lawful-front 0 made _ (subst (LawfulBytes 0) (m .joined) l)) (m .wanted)
+    where
+      go : (l : List ℕ) → LawfulBytes 0 l → need 0 l ≤ 12 + S → LengthRule (length l) S
+      go [] c w h = omega arith
+      go (d ∷ ds) c w h = omega (arith, length-need 0 d ds c .0 (omega arith))
+
+  pub length-law : LawfulBytes 0 code → LengthLaw S code made
+  unfolding follows
+  length-law l =
+      by-cond (λ (f : List ℕ). code ≡ made ++ f → LengthLaw S code made) (eqb (lastOf 0 made) 255) (0 ∷ []) []
+      (λ t e. inr (e, subst (λ (n : ℕ). LengthRule n S) (one-less e) (made-length l)))
+      (λ t e. inl (
+        e ∙ append-nil made,
+        subst (λ (c : List ℕ). LengthRule (length c) S) (sym (e ∙ append-nil made))
+            (made-length l),
+      ))
+      (m .joined)
+    where
+      one-less : code ≡ made ++ (0 ∷ []) → length made ≡ length code - 1
+      one-less e = omega (arith, ap length e, length-append made (0 ∷ []))

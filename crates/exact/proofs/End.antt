@@ -6,17 +6,19 @@ use native.Mathlib.Nat.{pow-succ', mul-assoc, mul-one, add-zero, dvd-trans, dvd-
 use native.Mathlib.Nat.{dvd-mul-left-of-dvd, dvd-mul-right, dvd-refl, mul-dvd-mul-left, mod-eq-zero-of-dvd}
 use native.Mathlib.Nat.{mod-eq-of-lt, add-sub-of-le, one-dvd, eq-of-mul-eq-mul-right, mul-right-comm, add-comm}
 use native.Mathlib.Omega.{arith}
-use mathlib.Core.List.{List}
+use mathlib.Core.List.{List, [], _∷_, _++_, append-assoc, append-nil}
 use lib.Dec.{eqb, eqb→eq}
 use lib.Pow.{pow-add, pow-pos}
 use Rattle.ground.proofs.Tests.{by-cond}
 use Rattle.octets.specs.Unit.{unit}
 use Rattle.interval.specs.Interval.{Decision, whole}
-use Rattle.octets.specs.Octets.{Registers, start, byte, run, pad, pads, lastByte, cover, finish, bytes}
+use Rattle.octets.specs.Octets.{Registers, start, bits, byte, run, pad, pads, lastByte, cover, finish}
+use Rattle.octets.specs.Octets.{bytes, follows, ended}
 use Rattle.octets.specs.Fit.{Fit, Rest}
 use Rattle.octets.proofs.Fit.{Byte, made, byte-few, AllSized, ready-run, ready-start}
 use Rattle.octets.proofs.Ending.{Filled, filled, fit-pad, rest-last}
 use Rattle.exact.specs.Value.{value, places, exact}
+use Rattle.exact.proofs.Value.{places-snoc, value-snoc}
 use Rattle.exact.proofs.Agree.{Agree, agree-pad, agree-byte, same-run, same-start}
 use Rattle.ground.proofs.Powers.{double-first}
 
@@ -135,18 +137,45 @@ scaled v low u z p n e h =
     ∙ ap (λ (x : ℕ). low * x) (sym (pow-add 2 z n) ∙ ap (λ (x : ℕ). 2 ^ x) (add-comm z n ∙ sym h) ∙ pow-add 2 p u)
     ∙ sym (mul-assoc low (2 ^ p) (2 ^ u)))
 
-value-finish : (w : Registers) (low n : ℕ) → Rest w → Agree w low n → value (bytes (finish w)) * 2 ^ n ≡ low * 2 ^
-    places 0 (bytes (finish w))
+-- a byte 00 after the last brings its zeros
+module _ (v : Registers) (low n : ℕ) (e : value (bytes v) * 2 ^ n ≡ low * 2 ^ places 0 (bytes v)) where
+  abbrev Valued : List ℕ → Type 0
+  Valued l = value l * 2 ^ n ≡ low * 2 ^ places 0 l
+
+  zero-behind : Valued (v .settled ++ (v .held ∷ 0 ∷ []))
+  unfolding bytes
+  zero-behind =
+      rw (
+        value-snoc (v .settled) (v .held) 0,
+        places-snoc 0 (v .settled) (v .held) 0,
+        pow-add 2 (places 0 (v .settled ++ (v .held ∷ []))) (bits (v .held)),
+      )
+      (num (value (v .settled ++ (v .held ∷ []))) (2 ^ n) (2 ^ places 0 (v .settled ++ (v .held ∷ [])))
+      (2 ^ bits (v .held)) e)
+    where
+      num : (x y z k : ℕ) → x * y ≡ low * z → (x * k + 0) * y ≡ low * (z * k)
+      num x y z k h = omega (arith, ap (λ (m : ℕ). m * k) h)
+
+  value-ended : Valued (ended v)
+  unfolding ended follows bytes
+  value-ended =
+      by-cond (λ (l : List ℕ). Valued (bytes v ++ l)) (eqb (v .held) 255) (0 ∷ []) []
+      (λ t. subst Valued (sym (append-assoc (v .settled) (v .held ∷ []) (0 ∷ []))) zero-behind)
+      (λ t. subst Valued (sym (append-nil (bytes v))) e)
+
+value-finish : (w : Registers) (low n : ℕ) → Rest w → Agree w low n → value (ended (finish w)) * 2 ^ n ≡ low * 2 ^
+    places 0 (ended (finish w))
 unfolding finish unit
 value-finish w low n r g =
     let l : Later (finish w) low n = agree-cover 4 (24 - w .until) w low n r g in
     let z : finish w .interval .low ≡ 0 = cover-clear 4 (24 - w .until) w r (tail-start w r) (omega arith) in
-    scaled (value (bytes (finish w))) low (24 - finish w .until) (l .0) (places 0 (bytes (finish w))) n
-    (omega (arith, l .1 .sum)) (l .1 .reach)
+    value-ended (finish w) low n
+    (scaled (value (bytes (finish w))) low (24 - finish w .until) (l .0) (places 0 (bytes (finish w))) n
+    (omega (arith, l .1 .sum)) (l .1 .reach))
 
 pub value-run : (ds : List Decision) → AllSized ds
-    → value (bytes (finish (run ds start))) * 2 ^ (20 + exact ds whole .count) ≡ exact ds whole .low * 2 ^ places 0
-    (bytes (finish (run ds start)))
+    → value (ended (finish (run ds start))) * 2 ^ (20 + exact ds whole .count) ≡ exact ds whole .low * 2 ^ places 0
+    (ended (finish (run ds start)))
 value-run ds z =
     value-finish (run ds start) _ _ (ready-run ds start z ready-start .rest) (same-run ds start whole z ready-start
     same-start .agree)

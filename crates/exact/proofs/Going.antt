@@ -8,7 +8,7 @@ use mathlib.Core.List.{List, [], _∷_}
 use lib.Dec.{T, ltb, eqb, ltb→lt, eqb→eq}
 use Rattle.ground.proofs.Tests.{by-cond}
 use Rattle.interval.specs.Interval.{Decision}
-use Rattle.octets.specs.Octets.{Registers, byte, due, double, shifts, part, pel, run, finish, bytes}
+use Rattle.octets.specs.Octets.{Registers, byte, due, double, shifts, part, pel, run, finish, ended}
 use Rattle.octets.proofs.Fit.{upper, lower, by-part, byte-few, Sized, AllSized, fit-double, rest-shift, rest-part}
 use Rattle.octets.proofs.Fit.{ready-pel}
 use Rattle.octets.specs.Fit.{Fit, Rest, Ready}
@@ -91,7 +91,7 @@ going-run (d ∷ ds) w all S z r g =
     (going-shifts 12 (part d w) all S (rest-part d w r (z .0)) (going-run ds (pel d w) all S (z .1)
     (ready-pel d w r (z .0)) g))
 
-pub going-end : (w : Registers) → Rest w → Going w (bytes (finish w)) (w .interval .count)
+pub going-end : (w : Registers) → Rest w → Going w (ended (finish w)) (w .interval .count)
 unfolding finish
 going-end w r = record {
   n = 24 - w .until;

@@ -2,6 +2,7 @@ pub mod Agree
 pub mod Ahead
 pub mod Back
 pub mod Codes
+pub mod Follows
 pub mod End
 pub mod Going
 pub mod Reader

@@ -18,7 +18,7 @@ use Rattle.octets.proofs.Fit.{upper, lower, Byte, made, bits-few, byte-until, f
 use Rattle.octets.specs.Fit.{Fit, Rest}
 use Rattle.exact.specs.Value.{value, places}
 use Rattle.exact.proofs.Value.{places-one, places-snoc, value-snoc, places-split, value-split}
-use Rattle.exact.proofs.Ahead.{Ahead, ahead-double, byte-width, byte-settled}
+use Rattle.exact.proofs.Ahead.{Ahead, ahead-covers, ahead-double, byte-width, byte-settled}
 use Rattle.exact.proofs.Going.{Going, going-due, going-shifts}
 use Rattle.exact.specs.Sight.{Sight, opened, more, nearer, supplied, seek, decide, above, under}
 
@@ -273,7 +273,7 @@ not-done r w all S f i g z e =
     let c : i .n ≤ places (g .b) (g .ys ++ (r .last ∷ []))
     = subst₂ (λ (b : ℕ) (l : List ℕ). i .n ≤ places b l) (meet-b r w (double w) all (i .n) refl g (i .ahead))
     (meet-bs r w (double w) all (i .n) refl g (i .ahead) ∙ ap (λ (l : List ℕ). g .ys ++ (r .last ∷ l)) e)
-    (i .ahead .covers) in
+    (ahead-covers (double w) all (i .n) (i .ahead)) in
     omega (arith, g .place, i .togo, i .soon, f .wait, f .fit .few)
 
 fits : (a l x : ℕ) → a ≤ 8191 → l ≤ 8 → x < a * 2 ^ l → x % 2 ^ 32 ≡ x

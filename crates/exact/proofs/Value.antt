@@ -29,6 +29,11 @@ unfolding value
 head-le d ds = omega arith
 
 -- ---- bytes behind
+pub places-more : (b : ℕ) (xs ys : List ℕ) → places b xs ≤ places b (xs ++ ys)
+unfolding places
+places-more b [] ys = omega arith
+places-more b (x ∷ xs) ys = omega (arith, places-more x xs ys)
+
 pub places-split : (z : ℕ) (xs : List ℕ) (l : ℕ) (us : List ℕ) → places z (xs ++ (l ∷ us)) ≡ places z (xs ++ (l ∷ []))
     + places l us
 unfolding places

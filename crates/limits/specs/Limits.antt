@@ -38,9 +38,9 @@ lastBytes = (maxWidth + 7) / 8
 abbrev pub maxBand : ℕ
 maxBand = maxRows * lastBytes
 
--- how far a place in its code goes: a pel settles at most two bytes, and the end makes at most five more
+-- how far a place in its code goes: a pel settles at most two bytes, and the end at most six more
 abbrev pub farthest : ℕ
-farthest = 2 * maxWidth * maxRows + 5
+farthest = 2 * maxWidth * maxRows + 6
 
 -- its shifts: a pel takes at most twelve
 abbrev pub maxShifts : ℕ

@@ -2,15 +2,18 @@
 use mathlib.Core.Path.{_≡_, refl, sym, ap, _∙_, subst}
 use mathlib.Core.Logic.{_≢_}
 use Prim.Native.Nat.{ℕ, zero, suc, _+_, _-_, _*_, _%_, _^_, _≤_, _<_}
-use native.Mathlib.Nat.{mul-one, sub-zero}
+use native.Mathlib.Nat.{mul-one, add-zero, sub-zero}
+use native.Mathlib.Numerals.{add-one}
 use native.Mathlib.Omega.{arith}
 use mathlib.Core.List.{List, [], _∷_, _++_, append-assoc}
 use lib.ListN.{length, take, set, length-set}
-use lib.Seq.{take-suc-set}
-use Rattle.ground.proofs.Tests.{if-ne}
+use lib.Seq.{take-suc-set, take-set-le}
+use lib.Dec.{eqb}
+use Rattle.ground.proofs.Tests.{by-cond, if-ne}
 use Rattle.interval.specs.declared.Interval.{Interval}
 use Rattle.octets.specs.declared.Byte.{Byte}
 use Rattle.octets.specs.Octets.{Registers, bits, carried, left, byte, pad, pads, lastByte, cover, finish, bytes}
+use Rattle.octets.specs.Octets.{follows, ended}
 use Rattle.octets.specs.Unit.{unit}
 use Rattle.octets.proofs.Unit.{unit-pred, unit-zero}
 use Rattle.octets.specs.Fit.{Fit, Rest}
@@ -98,12 +101,12 @@ pub record Ending (i : Interval) (all xs : List ℕ) (low until held r n : ℕ) 
   pub fuel : k + n ≡ 4
   pub few : r ≤ 7 * k
   pub rest : Rest (stays i low until held)
-  pub size : length xs ≡ 5
-  pub same : take n xs ++ bytes (cover k r (stays i low until held)) ≡ all
+  pub size : length xs ≡ 6
+  pub same : take n xs ++ ended (cover k r (stays i low until held)) ≡ all
 
-pub ending-start : (i : Interval) (xs : List ℕ) (low until held r : ℕ) → length xs ≡ 5 → Rest (stays i low until held)
+pub ending-start : (i : Interval) (xs : List ℕ) (low until held r : ℕ) → length xs ≡ 6 → Rest (stays i low until held)
     → r ≡ 24 - until
-    → Ending i (bytes (finish (stays i low until held))) xs low until held r 0
+    → Ending i (ended (finish (stays i low until held))) xs low until held r 0
 unfolding finish
 ending-start i xs low until held r l q e =
     record {
@@ -112,7 +115,7 @@ ending-start i xs low until held r l q e =
       few = omega (arith, q .wait);
       rest = q;
       size = l;
-      same = ap (λ (m : ℕ). bytes (cover 4 m (stays i low until held))) e;
+      same = ap (λ (m : ℕ). ended (cover 4 m (stays i low until held))) e;
     }
 
 -- before a last byte there is room in the registers
@@ -132,9 +135,11 @@ unfolding cover
 cover-none zero w = refl
 cover-none (suc k) w = refl
 
-pub bytes-behind : (xs : List ℕ) (w : Registers) → bytes (behind xs w) ≡ xs ++ bytes w
-unfolding bytes
-bytes-behind xs w = append-assoc xs (w .settled) (w .held ∷ [])
+pub ended-behind : (xs : List ℕ) (w : Registers) → ended (behind xs w) ≡ xs ++ ended w
+unfolding ended bytes
+ended-behind xs w =
+    ap (λ (l : List ℕ). l ++ follows (w .held)) (append-assoc xs (w .settled) (w .held ∷ []))
+    ∙ append-assoc xs (w .settled ++ (w .held ∷ [])) (follows (w .held))
 
 module _ (i : Interval) (low until held : ℕ) (v : Byte) (o : Out held (low * 2 ^ until) 1 v) where
   last-byte : lastByte (stays i low until held) ≡ behind (v .settled ∷ []) (stays i (v .low) (v .bits) (v .held))
@@ -166,18 +171,18 @@ module _ (i : Interval) (low until held : ℕ) (v : Byte) (o : Out held (low * 2
         wait = k .wait;
       }
 
-  next-bytes : (k r : ℕ) → r ≢ 0 → bytes (cover (suc k) r (stays i low until held)) ≡ v .settled
-      ∷ bytes (cover k (r - v .bits) (stays i (v .low) (v .bits) (v .held)))
+  next-bytes : (k r : ℕ) → r ≢ 0 → ended (cover (suc k) r (stays i low until held)) ≡ v .settled
+      ∷ ended (cover k (r - v .bits) (stays i (v .low) (v .bits) (v .held)))
   next-bytes k r h =
-      ap bytes (cover-some k r (stays i low until held) h ∙ ap (λ (w : Registers). cover k (r - w .until) w) last-byte
+      ap ended (cover-some k r (stays i low until held) h ∙ ap (λ (w : Registers). cover k (r - w .until) w) last-byte
       ∙ behind-cover k (r - v .bits) (v .settled ∷ []) (stays i (v .low) (v .bits) (v .held)))
-      ∙ bytes-behind (v .settled ∷ []) (cover k (r - v .bits) (stays i (v .low) (v .bits) (v .held)))
+      ∙ ended-behind (v .settled ∷ []) (cover k (r - v .bits) (stays i (v .low) (v .bits) (v .held)))
 
   seven-next : 7 ≤ v .bits
   seven-next = rw (o .bits′) (bits-few (carried held (low * 2 ^ until)) .0)
 
-  again : (all xs : List ℕ) (r n k : ℕ) → k + n ≡ 4 → r ≤ 7 * k → Rest (stays i low until held) → length xs ≡ 5
-      → take n xs ++ bytes (cover k r (stays i low until held)) ≡ all
+  again : (all xs : List ℕ) (r n k : ℕ) → k + n ≡ 4 → r ≤ 7 * k → Rest (stays i low until held) → length xs ≡ 6
+      → take n xs ++ ended (cover k r (stays i low until held)) ≡ all
       → r ≢ 0 → Ending i all (set xs n (v .settled)) (v .low) (v .bits) (v .held) (r - v .bits) (suc n)
   again all xs r n zero f w q l s h = absurd (h (omega arith))
   again all xs r n (suc k) f w q l s h =
@@ -188,10 +193,10 @@ module _ (i : Interval) (low until held : ℕ) (v : Byte) (o : Out held (low * 2
         rest = rest-next q;
         size = length-set xs n (v .settled) ∙ l;
         same =
-            ap (λ (ys : List ℕ). ys ++ bytes (cover k (r - v .bits) (stays i (v .low) (v .bits) (v .held))))
+            ap (λ (ys : List ℕ). ys ++ ended (cover k (r - v .bits) (stays i (v .low) (v .bits) (v .held))))
             (take-suc-set xs n (v .settled) (omega arith))
             ∙ append-assoc (take n xs) (v .settled ∷ [])
-            (bytes (cover k (r - v .bits) (stays i (v .low) (v .bits) (v .held))))
+            (ended (cover k (r - v .bits) (stays i (v .low) (v .bits) (v .held))))
             ∙ ap (λ (ys : List ℕ). take n xs ++ ys) (sym (next-bytes k r h)) ∙ s;
       }
 
@@ -199,10 +204,26 @@ module _ (i : Interval) (low until held : ℕ) (v : Byte) (o : Out held (low * 2
       → Ending i all (set xs n (v .settled)) (v .low) (v .bits) (v .held) (r - v .bits) (suc n)
   ending-again all xs r n e h = again all xs r n (e .k) (e .fuel) (e .few) (e .rest) (e .size) (e .same) h
 
--- all bits are covered: the held byte is the last
-pub ending-end : (i : Interval) (all xs : List ℕ) (low until held n : ℕ) → Ending i all xs low until held 0 n
-    → take (suc n) (set xs n held) ≡ all
-unfolding bytes
-ending-end i all xs low until held n e =
-    take-suc-set xs n held (omega (arith, e .size, e .fuel)) ∙ ap (λ (w : Registers). take n xs
-    ++ (w .settled ++ (w .held ∷ []))) (sym (cover-none (e .k) (stays i low until held))) ∙ e .same
+-- all bits are covered: the held byte is the last, and where it is FF a byte 00 follows
+module _ (i : Interval) (all xs : List ℕ) (low until held n : ℕ) (e : Ending i all xs low until held 0 n) where
+  last : take n xs ++ ((held ∷ []) ++ follows held) ≡ all
+  unfolding bytes ended
+  last = ap (λ (w : Registers). take n xs ++ ended w) (sym (cover-none (e .k) (stays i low until held))) ∙ e .same
+
+  with-last : take (suc n) (set xs n held) ≡ take n xs ++ (held ∷ [])
+  with-last = take-suc-set xs n held (omega (arith, e .size, e .fuel))
+
+  two : take (suc (suc n)) (set (set xs n held) (suc n) 0) ≡ take n xs ++ (held ∷ 0 ∷ [])
+  two =
+      take-suc-set (set xs n held) (suc n) 0 (omega (arith, length-set xs n held, e .size, e .fuel))
+      ∙ ap (λ (l : List ℕ). l ++ (0 ∷ [])) with-last ∙ append-assoc (take n xs) (held ∷ []) (0 ∷ [])
+
+  one : take (suc n) (set (set xs n held) (suc n) 0) ≡ take n xs ++ (held ∷ [])
+  one = take-set-le (suc n) (set xs n held) (suc n) 0 (omega arith) ∙ with-last
+
+  pub ending-end : (m : ℕ) → m ≡ length (follows held) → take (n + 1 + m) (set (set xs n held) (n + 1) 0) ≡ all
+  unfolding follows
+  ending-end m h =
+      ap (λ (k : ℕ). take (n + 1 + k) (set (set xs n held) (n + 1) 0)) h
+      ∙ by-cond (λ (l : List ℕ). take (n + 1 + length l) (set (set xs n held) (n + 1) 0) ≡ take n xs ++ (held ∷ l))
+      (eqb held 255) (0 ∷ []) [] (λ t. simp add-one two) (λ t. simp (add-one, add-zero) one) ∙ last

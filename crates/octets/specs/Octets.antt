@@ -95,7 +95,7 @@ abbrev pub lastByte : Registers → Registers
 lastByte w = byte (pads (w .until) w)
 
 -- At the end, bytes are made by the same rules, zeros shifted in, until they cover the r bits of the lower end that are
--- in no byte. Nothing else follows. Here n bytes at the most.
+-- in no byte. Here n bytes at the most.
 unfoldable pub cover : ℕ → ℕ → Registers → Registers
 cover zero r w = w
 cover (suc n) r w =
@@ -111,6 +111,15 @@ finish w = cover 4 (24 - w .until) w
 unfoldable pub bytes : Registers → List ℕ
 bytes w = w .settled ++ (w .held ∷ [])
 
+-- Where the last byte is FF, one more byte 00 follows, because receivers look for a stuff bit after it. Nothing else
+-- follows.
+unfoldable pub follows : ℕ → List ℕ
+follows b = cond (eqb b 0xff) (0 ∷ []) []
+
+-- every byte and what follows the last of them
+unfoldable pub ended : Registers → List ℕ
+ended w = bytes w ++ follows (w .held)
+
 -- The code, if the band ends here.
 unfoldable pub code : Registers → List ℕ
-code w = drop 1 (bytes (finish w))
+code w = drop 1 (ended (finish w))

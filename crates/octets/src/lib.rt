@@ -1,11 +1,11 @@
 // The byte rules: one pel, and the end.
 ghost use mathlib.Core.Path.{_≡_};
 ghost use mathlib.Core.List.{[]};
-ghost use lib.ListN.{take};
+ghost use lib.ListN.{length, take};
 ghost use Prim.Native.Nat.{ℕ, _+_, _-_, _*_, _≤_, _<_, _^_};
 ghost use Rattle.limits.specs.Limits.{maxShifts};
 ghost use Rattle.interval.specs.Interval.{decision, partOf, doublings};
-ghost use Rattle.octets.specs.Octets.{start, pel, byte, bytes, finish};
+ghost use Rattle.octets.specs.Octets.{start, pel, byte, finish, follows, ended};
 ghost use Rattle.octets.specs.Fit.{Rest, Ready};
 ghost use Rattle.octets.specs.Loops.{steps};
 ghost use Rattle.octets.specs.Lift.{Out, Small, lift, settledOf, there};
@@ -37,9 +37,9 @@ pub struct Put {
     pub second: u8,
 }
 
-// The last bytes: `count` of them, the byte that was held last.
+// The last bytes, with what follows the very last: `count` of them.
 pub struct Ended {
-    pub bytes: [u8; 5],
+    pub bytes: [u8; 6],
     pub count: usize,
 }
 
@@ -204,18 +204,19 @@ impl Coder {
         settle(next, held, k - until, k)
     }
 
-    // The end: zeros shifted in, and bytes made, until they cover every bit of the lower end.
+    // The end: zeros shifted in, and bytes made, until they cover every bit of the lower end; one byte 00 after a last
+    // FF.
     pub fn finish(self) -> Ended
         requires { ⌜ Rest (lift self []) ⌝ }
-        ensures { λ r. ⌜ (take (r .count) (r .bytes) ≡ bytes (finish (lift self []))) × (1 ≤ r .count)
-            × (r .count ≤ 5) ⌝ }
+        ensures { λ r. ⌜ (take (r .count) (r .bytes) ≡ ended (finish (lift self []))) × (1 ≤ r .count)
+            × (r .count ≤ 6) ⌝ }
     {
         let interval = self.interval;
         let mut low = interval.low;
         let mut until = self.until;
         let mut held = self.held;
         let mut left = 24 - until;
-        let mut bytes = [0u8; 5];
+        let mut bytes = [0u8; 6];
         let mut n: usize = 0;
         while 0 < left {
             let b = byte_out(low * power(until), held, 1);
@@ -227,11 +228,19 @@ impl Coder {
             n += 1;
         }
         bytes[n] = held as u8;
+        bytes[n + 1] = 0;
         Ended {
             bytes: bytes,
-            count: n + 1,
+            count: n + 1 + following(held),
         }
     }
+}
+
+// How many bytes follow a last byte: one after FF, which is 00.
+fn following(b: u64) -> usize
+    ensures { λ r. ⌜ (r ≡ length (follows b)) × (r ≤ 1) ⌝ }
+{
+    if b == 0xff { 1 } else { 0 }
 }
 
 // a less b, and 0 where b is more.

@@ -11,7 +11,7 @@ use lib.Dec.{eqb}
 use borrow.Author.Tests.{le-leb, lt-leb}
 use Rattle.coder.specs.Writing.{Stage}
 use Rattle.coder.specs.Reading.{readPels}
-use Rattle.octets.specs.Octets.{finish, bytes, code}
+use Rattle.octets.specs.Octets.{finish, ended, code}
 use Rattle.octets.specs.Lift.{lift}
 use Rattle.estimate.specs.declared.Table.{Table}
 use Rattle.exact.specs.Sight.{opened}
@@ -30,7 +30,7 @@ use Rattle.unique.proofs.BandPels.{reads-written, code-of-pels}
 
 module _ (width rows : ℕ) (table : Table) (last given out₀ above : List ℕ) (r : Progress) (out : List ℕ)
     (b : BandRead width last given (table .entries) out₀ above r out rows)
-    (lasts : List ℕ) (e : lasts ≡ bytes (finish (lift (r .coder) []))) (more : 1 ≤ length lasts)
+    (lasts : List ℕ) (e : lasts ≡ ended (finish (lift (r .coder) []))) (more : 1 ≤ length lasts)
     (fits : rowsFit width rows out₀ ≡ true) where
   abbrev all : List ℕ
   all = b .settled ++ lasts

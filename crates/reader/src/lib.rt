@@ -210,8 +210,8 @@ pub fn read_rows(
 }
 
 // Whether the first n of the last bytes are the code's too.
-pub fn match_last(code: &[u8], at: usize, bytes: [u8; 5], n: usize, good: bool) -> bool
-    requires { ⌜ (n ≤ 5) × (at + n ≤ farthest) ⌝ }
+pub fn match_last(code: &[u8], at: usize, bytes: [u8; 6], n: usize, good: bool) -> bool
+    requires { ⌜ (n ≤ 6) × (at + n ≤ farthest) ⌝ }
     ensures { λ r. ⌜ r ≡ (good && matches (now (code .entry)) at (take n bytes)) ⌝ }
 {
     let mut same = good;

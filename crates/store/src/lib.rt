@@ -50,8 +50,8 @@ pub fn put_two(out: &mut [u8], at: usize, n: usize, first: u8, second: u8) -> us
 }
 
 // The first n of the last bytes.
-pub fn put_last(out: &mut [u8], at: usize, bytes: [u8; 5], n: usize) -> usize
-    requires { ⌜ (n ≤ 5) × (at + n ≤ farthest) ⌝ }
+pub fn put_last(out: &mut [u8], at: usize, bytes: [u8; 6], n: usize) -> usize
+    requires { ⌜ (n ≤ 6) × (at + n ≤ farthest) ⌝ }
     ensures { λ r. ⌜ (r ≡ at + n) × (now (out .exit) ≡ stores (now (out .entry)) at (take n bytes)) ⌝ }
 {
     let mut next = at;

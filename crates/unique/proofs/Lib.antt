@@ -3,3 +3,4 @@ pub mod QCoder
 pub mod Search
 pub mod Unique
 pub mod OneReader
+pub mod Zeros

@@ -9,12 +9,12 @@ use lib.Dec.{ltb}
 use Rattle.coder.proofs.Reading.{IsCoder}
 use Rattle.estimate.proofs.LawfulEntries.{Sized}
 use Rattle.interval.specs.Interval.{Decision, decision}
-use Rattle.octets.specs.Octets.{Registers, start, part, pel, run, finish, bytes, code}
+use Rattle.octets.specs.Octets.{Registers, start, part, pel, run, finish, ended, code}
 use Rattle.octets.proofs.Fit.{upper, lower, AllSized, ready-run, ready-start, rest-part}
 use Rattle.octets.specs.Fit.{Ready}
 use Rattle.octets.proofs.Fit.{Sized as Coded}
 use Rattle.exact.specs.Value.{places}
-use Rattle.exact.proofs.Ahead.{Ahead}
+use Rattle.exact.proofs.Ahead.{Ahead, ahead-covers}
 use Rattle.exact.proofs.Going.{Going, going-part, going-end, going-shifts}
 use Rattle.exact.proofs.Codes.{written, code-bytes}
 use Rattle.exact.specs.Sight.{Sight, opened, seek, decide, above, under, taken}
@@ -63,8 +63,8 @@ reached-put q e w z r =
 ends-here : (w : Registers) → Reached w → Ends w (code w)
 unfolding written code
 ends-here w r =
-    let e : bytes (finish w) ≡ 0 ∷ drop 1 (bytes (finish w)) = subst (λ (v : Registers). bytes (finish v) ≡ 0
-    ∷ drop 1 (bytes (finish v))) (r .is) (code-bytes (r .ds) (r .sized)) in
+    let e : ended (finish w) ≡ 0 ∷ drop 1 (ended (finish w)) = subst (λ (v : Registers). ended (finish v) ≡ 0
+    ∷ drop 1 (ended (finish v))) (r .is) (code-bytes (r .ds) (r .sized)) in
     record {
       total = w .interval .count;
       going = subst (λ (l : List ℕ). Going w l (w .interval .count)) e (going-end w (ready w r .rest));
@@ -94,7 +94,7 @@ sees-first c i =
     let b : 0 ≡ a .b = ap (λ (l : List ℕ). getD l 0 0) (a .joined) in
     let s : c ≡ a .bs = ap (λ (l : List ℕ). drop 1 l) (a .joined) in
     sees-start c (0 ∷ c) refl (subst₂ (λ (x : ℕ) (l : List ℕ). 12 ≤ places x l) (sym b) (sym s)
-    (omega (arith, a .covers, i .going .togo)))
+    (omega (arith, ahead-covers start (0 ∷ c) (i .going .n) a, i .going .togo)))
 
 module _ (q : ℕ) (w : Registers) (r : Sight) (c : List ℕ) (z : Sized q) (f : Reached w) (g : Sees r w (0 ∷ c)) where
   high : Ends (pel (decision q true) w) c → q * 2 ^ r .look ≤ r .x

@@ -17,12 +17,12 @@ use Rattle.estimate.specs.declared.Table.{Table}
 use Rattle.estimate.specs.Estimate.{LawfulTable}
 use Rattle.interval.specs.Interval.{decision}
 use Rattle.octets.specs.declared.Coder.{Coder}
-use Rattle.octets.specs.Octets.{Registers, start, finish, bytes, code}
+use Rattle.octets.specs.Octets.{Registers, start, finish, ended, code}
 use Rattle.octets.specs.Fit.{Ready}
 use Rattle.octets.proofs.Fit.{ready-start}
 use Rattle.octets.proofs.Loops.{behind, behind-pel, behind-finish}
 use Rattle.octets.specs.Lift.{lift}
-use Rattle.octets.proofs.Ending.{bytes-behind}
+use Rattle.octets.proofs.Ending.{ended-behind}
 use Rattle.store.specs.Store.{stores, inFront, cleared}
 use Rattle.store.proofs.Store.{stores-append, stores-fit, length-stores}
 use Rattle.template.specs.Pels.{pelsTo, rowAt, rowBytes, bandTo}
@@ -116,11 +116,11 @@ module _ (width : ℕ) where
 
 -- ---- the end of a band
 -- the last bytes come after those that were settled
-pub finish-behind : (c : Coder) (xs lasts : List ℕ) → lasts ≡ bytes (finish (lift c [])) → bytes (finish (lift c xs))
+pub finish-behind : (c : Coder) (xs lasts : List ℕ) → lasts ≡ ended (finish (lift c [])) → ended (finish (lift c xs))
     ≡ xs ++ lasts
 finish-behind c xs lasts e =
-    ap (λ (w : Registers). bytes (finish w)) (lift-behind c xs) ∙ ap bytes (behind-finish xs (lift c []))
-    ∙ bytes-behind xs (finish (lift c [])) ∙ ap (λ (l : List ℕ). xs ++ l) (sym e)
+    ap (λ (w : Registers). ended (finish w)) (lift-behind c xs) ∙ ap ended (behind-finish xs (lift c []))
+    ∙ ended-behind xs (finish (lift c [])) ∙ ap (λ (l : List ℕ). xs ++ l) (sym e)
 
 written-last : (width rows : ℕ) (t last band : List ℕ) → written width rows t last band .last ≡ lastRow width rows band
 unfolding written
@@ -128,7 +128,7 @@ written-last width rows t last band = refl
 
 module _ (width rows : ℕ) (last band t₀ out₀ above t : List ℕ) (c : Coder) (out : List ℕ) (at : ℕ)
     (b : BandAt width last band t₀ out₀ above t c out at rows)
-    (lasts : List ℕ) (e : lasts ≡ bytes (finish (lift c []))) where
+    (lasts : List ℕ) (e : lasts ≡ ended (finish (lift c []))) where
   -- every byte, the zero before the code first
   abbrev pub all : List ℕ
   all = b .settled ++ lasts

@@ -47,7 +47,7 @@ loop-again : tie.Need-loop-again Inv-loop μ-loop
 loop-again c =
     let a = c .before .before .before .before .args in
     let l = c .before .before .loop in
-    let n : length (a .t3) ≡ 5 = search needs in (
+    let n : length (a .t3) ≡ 6 = search needs in (
       omega arith,
       rw add-one (matches-next (a .code .now) (a .t3) (a .at) (l .i) (a .good) (l .same) _ (omega arith)
           (l .inv .1) (c .match-two .ensures)),

@@ -39,7 +39,7 @@ begin₁ c = begin (sized (rows c))
 counts : (c : tie.After-finish) → let f = c .finish .result in length (take (f .count) (f .bytes)) ≡ f .count
 counts c =
     let f = c .finish in
-    let n : length (f .result .bytes) ≡ 5 = search needs in
+    let n : length (f .result .bytes) ≡ 6 = search needs in
     length-take-le (f .result .count) (f .result .bytes) (omega (arith, f .ensures .2))
 
 compared : (c : tie.After-as-long) (v : Bool) → c .as-long .result ≡ v → let e = ended c in

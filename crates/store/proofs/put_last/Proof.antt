@@ -42,7 +42,7 @@ loop-again : tie.Need-loop-again Inv-loop μ-loop
 loop-again c =
     let l = c .before .before .before .before .before .loop in
     let a = c .before .before .before .before .before .before .before .args in
-    let n : length (a .t3) ≡ 5 = search needs in (
+    let n : length (a .t3) ≡ 6 = search needs in (
       omega arith,
       omega (arith, c .before .before .put .ensures .0),
       c .before .before .put .ensures .1 ∙ rw add-one (stores-next (a .out .now) (a .t3) (l .out) (a .at) (l .next)

@@ -32,7 +32,7 @@ counts : (c : tie.After-put-last) → let f = ended c .finish .result in
     c .put-last .result ≡ rows (ended c) .write-rows .result .at + length (take (f .count) (f .bytes))
 counts c =
     let f = ended c .finish in
-    let n : length (f .result .bytes) ≡ 5 = search needs in
+    let n : length (f .result .bytes) ≡ 6 = search needs in
     omega (
       arith,
       c .put-last .ensures .0,

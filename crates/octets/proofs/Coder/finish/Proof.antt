@@ -6,7 +6,7 @@ use native.Mathlib.Nat.{mul-one}
 use native.Mathlib.Numerals.{add-one}
 use native.Mathlib.Omega.{arith}
 use Rattle.interval.specs.declared.Interval.{Interval}
-use Rattle.octets.specs.Octets.{bytes, finish}
+use Rattle.octets.specs.Octets.{finish, ended}
 use Rattle.octets.specs.Fit.{Rest}
 use Rattle.octets.specs.Lift.{Out}
 use Rattle.octets.proofs.Ending.{stays, Ending, ending-start, ending-low, ending-again, ending-end}
@@ -17,14 +17,14 @@ use Prim.Native.Nat.{_<_}
 abbrev Inv-loop : tie.InvT-loop
 Inv-loop low₀ until₀ held₀ left₀ xs₀ n₀ low until held left xs n =
     (i : Interval) → Rest (stays i low₀ until₀ held₀)
-    → Ending i (bytes (finish (stays i low₀ until₀ held₀))) xs low until held left n
+    → Ending i (ended (finish (stays i low₀ until₀ held₀))) xs low until held left n
 
 abbrev μ-loop : tie.MeasureT-loop
 μ-loop low₀ until₀ held₀ left₀ xs₀ n₀ low until held left xs n = left
 
 -- ---- what the loop keeps, for the coder that is ended
 ending : (c : tie.At-loop Inv-loop μ-loop) → let s = c .before .before .args .self in let l = c .loop in
-    Ending (s .interval) (bytes (finish (stays (s .interval) (s .interval .low) (s .until) (s .held)))) (l .bytes)
+    Ending (s .interval) (ended (finish (stays (s .interval) (s .interval .low) (s .until) (s .held)))) (l .bytes)
     (l .low) (l .until) (l .held) (l .left) (l .n)
 ending c = c .loop .inv (c .before .before .args .self .interval) (c .before .before .pre)
 
@@ -82,14 +82,27 @@ cast-bytes c = omega (arith, ending (c .before) .rest .fit .octet)
 array-write-bytes-2 : tie.Need-array-write-bytes-2 Inv-loop μ-loop
 array-write-bytes-2 c = omega (arith, ending (c .before) .fuel)
 
-add-t19 : tie.Need-add-t19 Inv-loop μ-loop
-add-t19 c = omega (arith, ending (c .before) .fuel)
+add-bytes : tie.Need-add-bytes Inv-loop μ-loop
+add-bytes c = omega (arith, ending (c .before) .fuel)
+
+array-write-bytes-3 : tie.Need-array-write-bytes-3 Inv-loop μ-loop
+array-write-bytes-3 c = omega (arith, ending (c .before) .fuel)
+
+add-t18 : tie.Need-add-t18 Inv-loop μ-loop
+add-t18 c = omega (arith, ending (c .before) .fuel)
+
+following-requires : tie.Need-following-requires Inv-loop μ-loop
+following-requires c κs = tt
+
+add-t23 : tie.Need-add-t23 Inv-loop μ-loop
+add-t23 c = omega (arith, ending (c .before .before) .fuel, c .following .ensures .1)
 
 returns : tie.Need-returns Inv-loop μ-loop
 returns c =
-    let e = ending (c .before) in
-    let z : c .before .loop .left ≡ 0 = omega (arith, c .loop-test .left) in
-    (rw add-one (ending-end _ _ _ _ _ _ _ (rw z at e)), omega arith, omega (arith, e .fuel))
+    let e = ending (c .before .before) in
+    let z : c .before .before .loop .left ≡ 0 = omega (arith, c .before .loop-test .left) in
+    let m = c .following .ensures in
+    (ending-end _ _ _ _ _ _ _ (rw z at e) _ (m .0), omega arith, omega (arith, e .fuel, m .1))
 
 pub finish-spec : {M : Type 1} → statement M
 finish-spec =
@@ -109,5 +122,9 @@ finish-spec =
     loop-again
     cast-bytes
     array-write-bytes-2
-    add-t19
+    add-bytes
+    array-write-bytes-3
+    add-t18
+    following-requires
+    add-t23
     returns)
