@@ -231,7 +231,7 @@ take-none : (k : ℕ) → take {A = ℕ} k [] ≡ []
 take-none zero = refl
 take-none (suc k) = refl
 
--- nothing is left: the held byte is the last
+-- nothing is left: the held byte is the last made
 module _ (w : Registers) (r : ℕ) (f : Rest w) (z : r ≡ 0) (e : w .interval .low ≡ 0) where
   bare : follows (w .held) ≡ [] → Ahead w (ended w) r
   unfolding ended bytes value places need

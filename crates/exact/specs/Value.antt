@@ -40,7 +40,7 @@ need b (d ∷ []) = 1
 need b (d ∷ e ∷ es) = bits b + need d (e ∷ es)
 
 -- Of a code with S shifts, `made` are the bytes that cover the 12 + S bits: without the last of them they would not.
--- What follows them is the end's.
+-- After them stands what follows their last.
 pub record Made (S : ℕ) (code made : List ℕ) : Type 0 where
   pub covers : 12 + S ≤ places 0 made
   pub wanted : need 0 made ≤ 12 + S
@@ -50,7 +50,7 @@ pub record Made (S : ℕ) (code made : List ℕ) : Type 0 where
 abbrev pub LengthRule : ℕ → ℕ → Type 0
 LengthRule n S = 2 ≤ n → 8 * (n - 1) - (n - 1) / 2 ≤ 11 + S
 
--- The length law: as before where no byte was added; where one was, with n - 1 in the place of n.
+-- The length law: the length rule where no byte was added; where one was, with n - 1 in the place of n.
 abbrev pub LengthLaw : ℕ → List ℕ → List ℕ → Type 0
 LengthLaw S code made =
     ((code ≡ made) × LengthRule (length code) S) ⊎ ((code ≡ made ++ (0 ∷ [])) × LengthRule (length code - 1) S)
