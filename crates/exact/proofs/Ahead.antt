@@ -2,15 +2,14 @@
 -- interval, the bytes are lawful, and none is missing or in vain. All by going back from the end, one small step at a
 -- time; fractions are compared multiplied out. Assumes nothing.
 use mathlib.Core.Path.{_≡_, refl, sym, ap, _∙_, subst}
-use mathlib.Core.Logic.{⊎-elim}
 use Prim.Native.Nat.{ℕ, zero, suc, _+_, _-_, _*_, _^_, _≤_, _<_}
 use native.Mathlib.Nat.{mul-le-mul-right, pos-of-ne-zero}
 use native.Mathlib.Omega.{arith}
-use mathlib.Core.List.{List, [], _∷_, _++_, append-assoc, append-nil}
+use mathlib.Core.List.{List, [], _∷_, _++_, append-assoc}
 use lib.ListN.{take}
 use lib.Dec.{eqb, eqb→eq}
 use lib.Pow.{pow-pos}
-use Rattle.ground.proofs.Tests.{by-cond, neqb→ne, same?, if-ne}
+use Rattle.ground.proofs.Tests.{by-cond, neqb→ne}
 use Rattle.octets.specs.Unit.{unit}
 use Rattle.octets.proofs.Unit.{unit-pred, unit-zero, unit-pos}
 use Rattle.interval.specs.declared.Interval.{Interval}
@@ -227,62 +226,52 @@ ahead-last w all n r h i =
     let k : Filled (pads (w .until) w) = filled (w .until) w (r .fit) refl in
     ahead-pads (w .until) w all n (r .fit) refl (ahead-byte (pads (w .until) w) all n (k .fit) (k .due) h i)
 
-take-none : (k : ℕ) → take {A = ℕ} k [] ≡ []
-take-none zero = refl
-take-none (suc k) = refl
+-- what follows a last byte: lawful after it, and with no value of its own, in part or whole
+record Behind (h : ℕ) (l : List ℕ) : Type 0 where
+  lawful : LawfulBytes h l
+  whole : value (h ∷ l) ≡ h * 2 ^ places h l
+  part : (k : ℕ) → value (h ∷ take (suc k) l) ≡ h * 2 ^ places h (take (suc k) l)
+
+one-zero : (h : ℕ) → value (h ∷ 0 ∷ []) ≡ h * 2 ^ places h (0 ∷ [])
+unfolding value
+one-zero h = omega arith
+
+follows-behind : (h : ℕ) → Behind h (follows h)
+unfolding follows value
+follows-behind h =
+    by-cond (Behind h) (eqb h 255) (0 ∷ []) []
+    (λ t. record { lawful = (omega arith, λ y. omega arith, tt); whole = one-zero h; part = λ k. some k })
+    (λ t. record { lawful = tt; whole = omega arith; part = λ k. omega arith })
+  where
+    some : (k : ℕ) → value (h ∷ take (suc k) (0 ∷ [])) ≡ h * 2 ^ places h (take (suc k) (0 ∷ []))
+    some zero = one-zero h
+    some (suc k) = one-zero h
 
 -- nothing is left: the held byte is the last made
-module _ (w : Registers) (r : ℕ) (f : Rest w) (z : r ≡ 0) (e : w .interval .low ≡ 0) where
-  bare : follows (w .held) ≡ [] → Ahead w (ended w) r
-  unfolding ended bytes value places need
-  bare n =
-      let p : 1 ≤ unit (w .until) = unit-pos (w .until) in
-      record {
-        b = w .held;
-        bs = [];
-        joined = ap (λ (l : List ℕ). w .settled ++ (w .held ∷ []) ++ l) n ∙ append-nil (w .settled ++ (w .held ∷ []));
-        least = omega arith;
-        most = omega arith;
-        top = f .fit .octet;
-        full = λ y. y;
-        lawful = tt;
-        made = [];
-        split = sym n;
-        covers = omega arith;
-        wanted = omega arith;
-        floor = omega arith;
-        roof = omega (arith, f .fit .some);
-        prefix = λ k. omega arith;
-      }
-
-  -- it is FF: a byte 00 follows, which brings seven zeros
-  stuffed-end : w .held ≡ 255 → Ahead w (ended w) r
-  unfolding ended bytes value places need follows bits
-  stuffed-end h =
-      let p : 1 ≤ unit (w .until) = unit-pos (w .until) in
-      let k : follows (w .held) ≡ 0 ∷ [] = ap follows h in
-      record {
-        b = w .held;
-        bs = 0 ∷ [];
-        joined = ap (λ (l : List ℕ). w .settled ++ (w .held ∷ []) ++ l) k ∙ append-assoc (w .settled) (w .held ∷ [])
-            (0 ∷ []);
-        least = omega arith;
-        most = omega arith;
-        top = f .fit .octet;
-        full = λ y. y;
-        lawful = (omega arith, λ y. omega arith, tt);
-        made = [];
-        split = sym k;
-        covers = omega arith;
-        wanted = omega arith;
-        floor = rw h (omega arith);
-        roof = rw h (omega (arith, f .fit .some));
-        prefix = λ k. rw (h, take-none k) (omega arith);
-      }
-
-  ahead-stop : Ahead w (ended w) r
-  unfolding follows
-  ahead-stop = ⊎-elim stuffed-end (λ n. bare (if-ne (w .held) 255 (0 ∷ []) [] n)) (same? (w .held) 255)
+ahead-stop : (w : Registers) (r : ℕ) → Rest w → r ≡ 0 → w .interval .low ≡ 0 → Ahead w (ended w) r
+unfolding ended bytes places need
+ahead-stop w r f z e =
+    let p : 1 ≤ unit (w .until) = unit-pos (w .until) in
+    let k : Behind (w .held) (follows (w .held)) = follows-behind (w .held) in
+    let some : 1 ≤ 2 ^ places (w .held) (follows (w .held)) = pow-pos _ in
+    record {
+      b = w .held;
+      bs = follows (w .held);
+      joined = append-assoc (w .settled) (w .held ∷ []) (follows (w .held));
+      least = omega arith;
+      most = omega arith;
+      top = f .fit .octet;
+      full = λ y. y;
+      lawful = k .lawful;
+      made = [];
+      split = refl;
+      covers = omega arith;
+      wanted = omega arith;
+      floor = rw (k .whole, e) (omega arith);
+      roof = rw (k .whole, e)
+          (omega (arith, mul-le-mul-right (2 ^ places (w .held) (follows (w .held))) (f .fit .some)));
+      prefix = λ n. rw (k .part n, e) (omega arith);
+    }
 
 pub ahead-cover : (j r : ℕ) (w : Registers) → Rest w → Tail r w → r ≤ 7 * j → Ahead w (ended (cover j r w)) r
 unfolding cover

@@ -1,14 +1,13 @@
 -- What is said of every written code: its bytes, its value, its length. Assumes nothing.
 use mathlib.Core.Path.{_≡_, refl, sym, ap, _∙_, subst, subst₂}
 use mathlib.Core.Logic.{_≢_, _⊎_, inl, inr}
-use Prim.Native.Nat.{ℕ, suc, _+_, _-_, _*_, _/_, _^_, _≤_, _<_}
+use Prim.Native.Nat.{ℕ, _+_, _-_, _*_, _/_, _^_, _≤_, _<_}
 use native.Mathlib.Nat.{lt-of-mul-lt-mul-right}
 use native.Mathlib.Omega.{arith}
-use mathlib.Core.List.{List, [], _∷_, _++_, append-nil}
+use mathlib.Core.List.{List, [], _∷_, _++_}
 use lib.ListN.{drop, length, length-append}
-use lib.Dec.{eqb}
 use lib.Pow.{pow-add}
-use Rattle.ground.proofs.Tests.{by-cond, neqb→ne, same?}
+use Rattle.ground.proofs.Tests.{same?}
 use Rattle.octets.specs.Unit.{unit}
 use Rattle.interval.specs.Interval.{Decision, whole}
 use Rattle.octets.specs.Octets.{Registers, start, bits, run, finish, follows, ended, code}
@@ -19,6 +18,7 @@ use Rattle.exact.proofs.Value.{head-le}
 use Rattle.exact.proofs.Agree.{same-run, same-start}
 use Rattle.exact.proofs.End.{value-run}
 use Rattle.exact.proofs.Ahead.{Ahead}
+use Rattle.exact.proofs.Follows.{made-ends}
 use Rattle.exact.proofs.Going.{Going, going-run, going-end}
 
 -- the code of a run of decisions, and its shifts
@@ -148,16 +148,11 @@ module _ (S : ℕ) (code made : List ℕ) (m : Made S code made) where
       go (d ∷ ds) c w h = omega (arith, length-need 0 d ds c .0 (omega arith))
 
   pub length-law : LawfulBytes 0 code → LengthLaw S code made
-  unfolding follows
-  length-law l =
-      by-cond (λ (f : List ℕ). code ≡ made ++ f → LengthLaw S code made) (eqb (lastOf 0 made) 255) (0 ∷ []) []
-      (λ t e. inr (e, subst (λ (n : ℕ). LengthRule n S) (one-less e) (made-length l)))
-      (λ t e. inl (
-        e ∙ append-nil made,
-        subst (λ (c : List ℕ). LengthRule (length c) S) (sym (e ∙ append-nil made))
-            (made-length l),
-      ))
-      (m .joined)
+  length-law l = go (made-ends S code made m)
     where
       one-less : code ≡ made ++ (0 ∷ []) → length made ≡ length code - 1
       one-less e = omega (arith, ap length e, length-append made (0 ∷ []))
+
+      go : (code ≡ made) ⊎ (code ≡ made ++ (0 ∷ [])) → LengthLaw S code made
+      go (inl e) = inl (e, subst (λ (c : List ℕ). LengthRule (length c) S) (sym e) (made-length l))
+      go (inr e) = inr (e, subst (λ (n : ℕ). LengthRule n S) (one-less e) (made-length l))

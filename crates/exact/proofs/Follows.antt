@@ -19,16 +19,11 @@ need-snoc b [] d = refl
 need-snoc b (x ∷ []) d = omega arith
 need-snoc b (x ∷ y ∷ ys) d = omega (arith, need-snoc x (y ∷ ys) d)
 
--- one has no byte more than the other
+-- of two lists of bytes made, none has a byte more than the other
 no-more : (S : ℕ) (code xs ys : List ℕ) → Made S code xs → Made S code ys → ys ≡ xs ++ (0 ∷ []) → ⊥
 no-more S code xs ys m k e =
     let n : need 0 (xs ++ (0 ∷ [])) ≤ 12 + S = subst (λ (l : List ℕ). need 0 l ≤ 12 + S) e (k .wanted) in
     omega (arith, m .covers, need-snoc 0 xs 0)
-
-follows-cases : (b : ℕ) → (follows b ≡ 0 ∷ []) ⊎ (follows b ≡ [])
-unfolding follows
-follows-cases b = by-cond (λ (l : List ℕ). (l ≡ 0 ∷ []) ⊎ (l ≡ [])) (eqb b 255) (0 ∷ []) [] (λ t. inl refl)
-    (λ t. inr refl)
 
 front-is : (xs ys : List ℕ) → xs ++ (0 ∷ []) ≡ ys ++ (0 ∷ []) → xs ≡ ys
 front-is xs ys e =
@@ -36,21 +31,21 @@ front-is xs ys e =
     sym (take-append-seam xs (0 ∷ [])) ∙ ap (take (length xs)) e ∙ ap (λ (k : ℕ). take k (ys ++ (0 ∷ []))) n
     ∙ take-append-seam ys (0 ∷ [])
 
+-- the code is what was made, or one byte 00 more
+pub made-ends : (S : ℕ) (code made : List ℕ) → Made S code made → (code ≡ made) ⊎ (code ≡ made ++ (0 ∷ []))
+unfolding follows
+made-ends S code made m =
+    by-cond (λ (l : List ℕ). code ≡ made ++ l → (code ≡ made) ⊎ (code ≡ made ++ (0 ∷ []))) (eqb (lastOf 0 made) 255)
+    (0 ∷ []) [] (λ t e. inr e) (λ t e. inl (e ∙ append-nil made)) (m .joined)
+
 pub one-made : (S : ℕ) (code xs ys : List ℕ) → Made S code xs → Made S code ys → xs ≡ ys
-one-made S code xs ys m k = go (follows-cases (lastOf 0 xs)) (follows-cases (lastOf 0 ys))
+one-made S code xs ys m k = go (made-ends S code xs m) (made-ends S code ys k)
   where
-    longer : (zs l : List ℕ) → code ≡ zs ++ l → l ≡ 0 ∷ [] → code ≡ zs ++ (0 ∷ [])
-    longer zs l e h = e ∙ ap (λ (f : List ℕ). zs ++ f) h
-
-    whole : (zs l : List ℕ) → code ≡ zs ++ l → l ≡ [] → code ≡ zs
-    whole zs l e h = e ∙ ap (λ (f : List ℕ). zs ++ f) h ∙ append-nil zs
-
-    go : (follows (lastOf 0 xs) ≡ 0 ∷ []) ⊎ (follows (lastOf 0 xs) ≡ [])
-        → (follows (lastOf 0 ys) ≡ 0 ∷ []) ⊎ (follows (lastOf 0 ys) ≡ []) → xs ≡ ys
-    go (inl a) (inl b) = front-is xs ys (sym (longer xs _ (m .joined) a) ∙ longer ys _ (k .joined) b)
-    go (inl a) (inr b) = absurd (no-more S code xs ys m k (sym (whole ys _ (k .joined) b) ∙ longer xs _ (m .joined) a))
-    go (inr a) (inl b) = absurd (no-more S code ys xs k m (sym (whole xs _ (m .joined) a) ∙ longer ys _ (k .joined) b))
-    go (inr a) (inr b) = sym (whole xs _ (m .joined) a) ∙ whole ys _ (k .joined) b
+    go : (code ≡ xs) ⊎ (code ≡ xs ++ (0 ∷ [])) → (code ≡ ys) ⊎ (code ≡ ys ++ (0 ∷ [])) → xs ≡ ys
+    go (inl a) (inl b) = sym a ∙ b
+    go (inl a) (inr b) = absurd (no-more S code ys xs k m (sym a ∙ b))
+    go (inr a) (inl b) = absurd (no-more S code xs ys m k (sym b ∙ a))
+    go (inr a) (inr b) = front-is xs ys (sym a ∙ b)
 
 -- ---- no code ends in FF
 never-ff : (b : ℕ) (xs : List ℕ) → lastOf b (xs ++ follows (lastOf b xs)) ≢ 255

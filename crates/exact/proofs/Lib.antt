@@ -2,8 +2,8 @@ pub mod Agree
 pub mod Ahead
 pub mod Back
 pub mod Codes
-pub mod Follows
 pub mod End
+pub mod Follows
 pub mod Going
 pub mod Reader
 pub mod Value
