@@ -1,5 +1,5 @@
-// Codes read as one row on a new page. Of width 1, two are codes of a band and every other is damaged; of width 13, a
-// code whose last FF a byte 00 follows.
+// Codes read as one row on a new page. Of width 1, two are codes of a band and every other is damaged, or has a marker;
+// of width 13, a code whose last FF a byte 00 follows; of width 17, two bytes are no room for the row.
 ghost use Rattle.parts.specs.Parts.{Sized};
 use desk::Ask;
 use desk::Direction;
@@ -116,6 +116,18 @@ fn sent_again() {
     );
 }
 
+// A marker is a byte of 90 or more just after an FF, wherever it stands. It is told where there is room for the row.
+fn markers() {
+    first(b"FF 8F in place of P1,", b"\xFF\x8F");
+    first(b"FF 90 in place of P1,", b"\xFF\x90");
+    first(b"P1, FF 8F in it,", b"\xAC\xFF\x8F\x10");
+    first(b"P1, FF 90 in it,", b"\xAC\xFF\x90\x10");
+    first(b"P1, FF 90 after it,", b"\xAC\x10\xFF\x90");
+    first(b"P1, FF FF after it,", b"\xAC\x10\xFF\xFF");
+    first(b"P1, FF after it,", b"\xAC\x10\xFF");
+    of_width(17, b"FF 90 in 17 pels,", b"\xFF\x90");
+}
+
 fn main() {
     first(b"P1,", b"\xAC\x10");
     first(b"P2,", b"\x00\x00");
@@ -125,9 +137,7 @@ fn main() {
     first(b"P1, cut by one byte,", b"\xAC");
     first(b"P1, a zero byte more,", b"\xAC\x10\x00");
     flips();
-    first(b"FF 90 in place of P1,", b"\xFF\x90");
-    first(b"P1, FF 90 in it,", b"\xAC\xFF\x90\x10");
-    first(b"P1, FF 90 after it,", b"\xAC\x10\xFF\x90");
+    markers();
     sent_again();
     of_width(13, b"E6 60 in 13 pels,", b"\x15\x6E\xFF\x00");
     of_width(13, b"E6 60, FF not followed by 00,", b"\x15\x6E\xFF");

@@ -1,18 +1,18 @@
--- Demand 2 of a read: it answers 10 exactly where no other test refuses it and no band of that width and height would
--- from that state have been written as those bytes. Assumes nothing.
+-- Demand 2 of a read: it is told damaged, 10 or 15, exactly where no other test refuses it and no band of that width
+-- and height would from that state have been written as those bytes; 15 where there is a marker besides. Assumes
+-- nothing.
 use mathlib.Core.Path.{_≡_, refl, sym, ap, ap₂, _∙_, subst}
-use mathlib.Core.Logic.{_≢_}
 use mathlib.Core.Bool.{Bool, true, false, cond, not}
 use mathlib.Core.Option.{Option, none}
 use mathlib.Core.List.{List, [], _∷_, _++_}
 use Prim.Native.Nat.{ℕ, zero, suc}
-use native.Mathlib.Omega.{arith}
 use lib.Dec.{eqb}
-use borrow.Author.Tests.{eq-eqb}
 use Rattle.ground.proofs.Bools.{no-way, both, not-false}
 use Rattle.ground.specs.Options.{given}
 use Rattle.ground.proofs.Options.{none-given}
 use Rattle.band.specs.Band.{Right}
+use Rattle.marker.specs.Marker.{marked}
+use Rattle.marker.proofs.Never.{marked-damaged}
 use Rattle.unique.specs.BandOfCode.{bandOfCode}
 use Rattle.unique.proofs.OneReader.{right-found}
 use Rattle.desk.specs.declared.Ask.{Ask}
@@ -24,47 +24,53 @@ use Rattle.desk.specs.Tests.{foundIn, tests}
 use Rattle.desk.specs.Allowed.{Allowed}
 use Rattle.desk.proofs.Passed.{numbered}
 use Rattle.demands.proofs.Demand1.{answers}
-use Rattle.demands.specs.Damaged.{without, otherwise, Unwritten}
+use Rattle.demands.specs.Damaged.{isDamage, damage, others, otherwise, Unwritten}
 
--- which give another number
-not-without : (n : ℕ) (rs : List Row) → n ≢ 0 → refusal (without n rs) ≢ n
-unfolding without refusal
-not-without n [] h = λ e. h (sym e)
-not-without n (r ∷ rs) h = go (eqb (r .number) n) refl (not-without n rs h)
+-- the other tests never say "damaged"
+others-other : (rs : List Row) → isDamage (refusal (others rs)) ≡ false
+unfolding others refusal
+others-other [] = refl
+others-other (r ∷ rs) = go (isDamage (r .number)) refl (others-other rs)
   where
-    held : (b : Bool) → eqb (r .number) n ≡ false → refusal (without n rs) ≢ n
-        → cond b (r .number) (refusal (without n rs)) ≢ n
-    held true f ih e = no-way (sym (eq-eqb (r .number) n e) ∙ f)
-    held false f ih e = ih e
+    held : (b : Bool) → isDamage (r .number) ≡ false → isDamage (refusal (others rs)) ≡ false
+        → isDamage (cond b (r .number) (refusal (others rs))) ≡ false
+    held true f ih = f
+    held false f ih = ih
 
-    go : (b : Bool) → eqb (r .number) n ≡ b → refusal (without n rs) ≢ n
-        → refusal (cond b (without n rs) (r ∷ without n rs)) ≢ n
+    go : (b : Bool) → isDamage (r .number) ≡ b → isDamage (refusal (others rs)) ≡ false
+        → isDamage (refusal (cond b (others rs) (r ∷ others rs))) ≡ false
     go true f ih = ih
     go false f ih = held (r .holds) f ih
 
--- a last test, of the number 10
-abbrev lastly : ℕ → Bool → ℕ
-lastly zero x = cond x 10 0
-lastly (suc n) x = suc n
+-- the number of tests that come after the others
+abbrev lastly : ℕ → ℕ → ℕ
+lastly zero m = m
+lastly (suc n) m = suc n
 
-last-ten : (rs : List Row) (x : Bool) → numbered rs ≡ true → refusal (rs ++ (row 10 x ∷ [])) ≡ lastly (refusal rs) x
+two-parts : (rs ts : List Row) → numbered rs ≡ true → refusal (rs ++ ts) ≡ lastly (refusal rs) (refusal ts)
 unfolding refusal
-last-ten [] x h = refl
-last-ten (r ∷ rs) x h = go (r .holds) (r .number) (both (not (eqb (r .number) 0)) (numbered rs) h .0)
-    (last-ten rs x (both (not (eqb (r .number) 0))
-    (numbered rs) h .1))
+two-parts [] ts h = refl
+two-parts (r ∷ rs) ts h =
+    let k = both (not (eqb (r .number) 0)) (numbered rs) h in
+    go (r .holds) (r .number) (k .0) (two-parts rs ts (k .1))
   where
-    go : (b : Bool) (n : ℕ) → not (eqb n 0) ≡ true → refusal (rs ++ (row 10 x ∷ [])) ≡ lastly (refusal rs) x
-        → cond b n (refusal (rs ++
-        (row 10 x ∷ []))) ≡ lastly (cond b n (refusal rs)) x
+    go : (b : Bool) (n : ℕ) → not (eqb n 0) ≡ true → refusal (rs ++ ts) ≡ lastly (refusal rs) (refusal ts)
+        → cond b n (refusal (rs ++ ts)) ≡ lastly (cond b n (refusal rs)) (refusal ts)
     go true zero h ih = no-way (sym h)
     go true (suc n) h ih = refl
     go false n h ih = ih
 
-is-ten : (n : ℕ) (x : Bool) → n ≢ 10 → lastly n x ≡ 10 → (n ≡ 0) × (x ≡ true)
-is-ten zero true h e = (refl, refl)
-is-ten zero false h e = absurd (omega arith)
-is-ten (suc n) x h e = absurd (h e)
+-- the last two tests of a read
+abbrev lastTwo : Bool → Bool → ℕ
+lastTwo m x = cond m 15 (cond x 10 0)
+
+says : (n : ℕ) (m x : Bool) → isDamage n ≡ false → isDamage (lastly n (lastTwo m x)) ≡ true → (n ≡ 0)
+    × (lastly n (lastTwo m x) ≡ cond m 15 10)
+    × (m ≡ false → x ≡ true)
+says zero true x h e = (refl, refl, λ z. no-way z)
+says zero false true h e = (refl, refl, λ z. refl)
+says zero false false h e = no-way (sym e)
+says (suc n) m x h e = no-way (sym e ∙ h)
 
 module _ (d : Desk) (ask : Ask) (code out : List ℕ) where
   module _ (r : Outcome) (after : List ℕ) (a : Allowed d (reads ask code out) r after) where
@@ -74,26 +80,32 @@ module _ (d : Desk) (ask : Ask) (code out : List ℕ) where
     abbrev found : Option (List ℕ)
     found = foundIn (a .reader .finds) p (ask .rows) code
 
-    number-is : r .answer .number ≡ lastly (otherwise d ask code out) (not (given found))
-    unfolding tests without
+    number-is : r .answer .number ≡ lastly (otherwise d ask code out) (lastTwo (marked code) (not (given found)))
+    unfolding tests others refusal
     number-is = answers d (reads ask code out) r after a
-        ∙ last-ten (without 10 (tests bandOfCode (reads ask code out) (stand d (ask .key)))) (not
-        (given found)) refl
+        ∙ two-parts (others (tests bandOfCode (reads ask code out) (stand d (ask .key))))
+        (row 15 (marked code) ∷ row 10 (not (given found)) ∷ []) refl
 
-    -- a read that answers 10 passes its other tests, and no band of that size would have been written so
-    pub damaged : r .answer .number ≡ 10 → (otherwise d ask code out ≡ 0) × Unwritten d ask code out
+    unwritten : (m : Bool) → marked code ≡ m → (m ≡ false → not (given found) ≡ true) → Unwritten d ask code out
     unfolding foundIn
-    damaged e =
-        let t = is-ten (otherwise d ask code out) (not (given found)) (not-without 10 _ (λ z. absurd (omega arith)))
-        (sym number-is ∙ e) in (
-          t .0,
-          subst (Right (p .width) (ask .rows) (p .table .entries) (p .last) code)
-              (none-given found (not-false (given found) (t .1)))
-              (a .reader .right (p .width) (ask .rows) (p .table .entries) (p .last) code),
-        )
+    unwritten true e h = marked-damaged (p .width) (ask .rows) (p .table .entries) (p .last) code e
+    unwritten false e h =
+        subst (Right (p .width) (ask .rows) (p .table .entries) (p .last) code)
+        (none-given found (not-false (given found) (h refl)))
+        (a .reader .right (p .width) (ask .rows) (p .table .entries) (p .last) code)
 
-    -- a read that passes its other tests answers 10 where no band of that size would have been written so
-    pub only-then : otherwise d ask code out ≡ 0 → Unwritten d ask code out → r .answer .number ≡ 10
+    -- a read that is told damaged passes its other tests, and no band of that size would have been written so; it is
+    -- told 15 where there is a marker, 10 where there is none
+    pub damaged : isDamage (r .answer .number) ≡ true → (otherwise d ask code out ≡ 0)
+        × Unwritten d ask code out
+        × (r .answer .number ≡ damage code)
+    damaged e =
+        let t = says (otherwise d ask code out) (marked code) (not (given found)) (others-other _)
+        (sym (ap isDamage number-is) ∙ e) in
+        (t .0, unwritten (marked code) refl (t .2), number-is ∙ t .1)
+
+    -- a read that passes its other tests is told damaged where no band of that size would have been written so
+    pub only-then : otherwise d ask code out ≡ 0 → Unwritten d ask code out → r .answer .number ≡ damage code
     unfolding foundIn
     only-then e u =
         let f : found ≡ none
@@ -101,4 +113,10 @@ module _ (d : Desk) (ask : Ask) (code out : List ℕ) where
         (a .reader .right (p .width) (ask .rows) (p .table .entries)
         (p .last) code)
         ∙ sym (right-found (p .width) (ask .rows) (p .table .entries) (p .last) code none u) in
-        number-is ∙ ap₂ lastly e (ap (λ (o : Option (List ℕ)). not (given o)) f)
+        number-is ∙ ap₂ (λ (n : ℕ) (o : Option (List ℕ)). lastly n (lastTwo (marked code) (not (given o)))) e f
+
+    -- a marker is enough: no band of any size would have been written so
+    pub marker-told : otherwise d ask code out ≡ 0 → marked code ≡ true → r .answer .number ≡ 15
+    marker-told e m =
+        only-then e (marked-damaged (p .width) (ask .rows) (p .table .entries) (p .last) code m)
+        ∙ ap (λ (b : Bool). cond b 15 10) m

@@ -6,14 +6,12 @@ use mathlib.Core.Logic.{_≢_, _⊎_, inl, inr}
 use mathlib.Core.Bool.{Bool, true, false, cond, _||_}
 use mathlib.Core.List.{List, [], _∷_}
 use Prim.Native.Nat.{ℕ, zero, suc}
-use native.Mathlib.Omega.{arith}
 use lib.Dec.{eqb, ltb}
 use lib.ListN.{getD, length, replicate, length-replicate}
-use borrow.Author.Tests.{ne-eqb}
 use Rattle.ground.proofs.Bools.{no-way, both}
 use Rattle.store.specs.Store.{cleared}
 use Rattle.desk.specs.Desk.{Desk, Outcome}
-use Rattle.desk.specs.Refusals.{Row, refusal, order, from, inOrder, lentAfter}
+use Rattle.desk.specs.Refusals.{Row, refusal, order, from, inOrder, zeroing, lentAfter}
 use Rattle.desk.specs.Calls.{Call, keyOf, lentTo}
 use Rattle.desk.specs.Standing.{stand}
 use Rattle.desk.specs.Tests.{tests}
@@ -99,22 +97,21 @@ module _ (d : Desk) (c : Call) (r : Outcome) (after : List ℕ) (p : Allowed d c
             lent = l ∙ ap (λ (m : ℕ). lentAfter m (lentTo c)) (sym (ap (λ (o : Outcome). o .answer .number) e));
           }
 
-  -- It leaves the lent output alone as well, but for 9 and 10.
-  pub alone : r .answer .number ≢ 0 → r .answer .number ≢ 9 → r .answer .number ≢ 10 → after ≡ lentTo c
+  -- It leaves the lent output alone as well, but for "no room" and "damaged": 9, 15 and 10.
+  pub alone : r .answer .number ≢ 0 → zeroing (r .answer .number) ≡ false → after ≡ lentTo c
   unfolding lentAfter
-  alone h i j = refused h .lent ∙ rw (ne-eqb (r .answer .number) 9 i, ne-eqb (r .answer .number) 10 j)
+  alone h z = refused h .lent ∙ rw z
 
-  -- "no room" and "damaged" set all of the lent output to zero
-  pub all-zero : (r .answer .number ≡ 9) ⊎ (r .answer .number ≡ 10) → (length after ≡ length (lentTo c))
+  -- these set all of the lent output to zero
+  pub all-zero : zeroing (r .answer .number) ≡ true → (length after ≡ length (lentTo c))
       × ((i : ℕ) → getD after i 0 ≡ 0)
   unfolding lentAfter cleared
   all-zero e =
-      subst (λ (l : List ℕ). (length l ≡ length (lentTo c)) × ((i : ℕ) → getD l i 0 ≡ 0)) (sym (cleared-is e))
+      subst (λ (l : List ℕ). (length l ≡ length (lentTo c)) × ((i : ℕ) → getD l i 0 ≡ 0)) (sym cleared-is)
       (length-replicate (length (lentTo c)) 0, zero-get (length (lentTo c)))
     where
-      cleared-is : (r .answer .number ≡ 9) ⊎ (r .answer .number ≡ 10) → after ≡ replicate (length (lentTo c)) 0
-      cleared-is (inl e) = refused (λ z. absurd (omega (arith, e, z))) .lent ∙ rw e
-      cleared-is (inr e) = refused (λ z. absurd (omega (arith, e, z))) .lent ∙ rw e
+      cleared-is : after ≡ replicate (length (lentTo c)) 0
+      cleared-is = refused (λ z. no-way (sym e ∙ ap zeroing z)) .lent ∙ rw e
 
   -- a call that no test refuses answers and does what its effect says
   pub accepted : (e : Effect) → number (p .reader .finds) d c ≡ 0 → effectOn (p .reader .finds) d c ≡ e

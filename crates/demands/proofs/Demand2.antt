@@ -1,7 +1,7 @@
 -- Demand 2 of the calls: what a write answered, read on a page of the same width, working table and last row, with
 -- room, gives the pels back. Assumes nothing.
 use mathlib.Core.Path.{_≡_, refl, sym, ap, ap₂, _∙_, subst}
-use mathlib.Core.Bool.{true}
+use mathlib.Core.Bool.{true, false}
 use mathlib.Core.Option.{Option, some}
 use mathlib.Core.List.{List, [], _∷_, _++_}
 use Prim.Native.Nat.{ℕ, _*_, _≤_}
@@ -15,6 +15,8 @@ use Rattle.store.specs.Store.{inFront, front}
 use Rattle.template.specs.Pels.{rowBytes, bandPadded}
 use Rattle.limits.specs.Limits.{maxRows, maxCode}
 use Rattle.band.specs.Band.{Written, hasRoom, Finder}
+use Rattle.marker.specs.Marker.{marked}
+use Rattle.marker.proofs.Never.{code-unmarked}
 use Rattle.unique.proofs.OneReader.{right-found, one-reader}
 use Rattle.desk.specs.declared.Key.{Key}
 use Rattle.desk.specs.declared.Ask.{Ask}
@@ -100,6 +102,10 @@ module _ (d : Desk) (ask : Ask) (pels out : List ℕ) (r : Outcome) (after : Lis
   code-is : code d ask pels out r after a z p f ≡ bandOf p (ask .rows) pels .code
   code-is = ap₂ front (wrote .length) (wrote .code) ∙ front-again (bandOf p (ask .rows) pels .code) out
 
+  unmarked : marked (code d ask pels out r after a z p f) ≡ false
+  unfolding bandOf
+  unmarked = ap marked code-is ∙ code-unmarked (p .width) (ask .rows) (p .table .entries) (p .last) pels
+
   module _ (octets : (i : ℕ) → getD pels i 0 ≤ 255) (e : Desk) (ask′ : Ask) (out′ : List ℕ) (q : Page)
       (g : openPage e (ask′ .key) ≡ some q)
       (same : SameState p q) (law : lawful e ≡ true) (rows : ask .rows ≡ ask′ .rows) (way : q .state ≡ 2)
@@ -153,7 +159,7 @@ module _ (d : Desk) (ask : Ask) (pels out : List ℕ) (r : Outcome) (after : Lis
         let long = le-ltb maxCode (length (code d ask pels out r after a z p f)) short in
         let roomy = le-ltb (length out′) (ask′ .rows * rowBytes (q .width)) fits in
         by-page (λ s. refusal (tests G (reads ask′ (code d ask pels out r after a z p f) out′) s))
-        ∙ (rw (law, known, within, long, eq-eqb (q .state) 2 way, roomy, found))
+        ∙ (rw (law, known, within, long, eq-eqb (q .state) 2 way, roomy, unmarked, found))
 
     -- Read from that same state, they give the pels back.
     pub read-back : ReadBack d ask pels out r after a z p f octets e ask′ out′ q g same law rows way room r′ after′ b

@@ -11,6 +11,7 @@ use Rattle.coder.specs.Writing as writing
 use Rattle.coder.specs.Page.{contextOf, entryAt, size, sense, taught, placed, move}
 use Rattle.estimate.specs.declared.Table.{Table}
 use Rattle.estimate.specs.Estimate.{rowOf, rise, fall, flip, next, fresh}
+use Rattle.marker.specs.Marker.{marked}
 use Rattle.octets.specs.Octets.{bits, carried, byte, due, shifts, pads, cover, finish, bytes, follows, ended, code}
 use Rattle.octets.specs.Octets as octets
 use Rattle.store.specs.Store.{inFront, cleared}
@@ -139,7 +140,7 @@ unfolding seen run after markOf left serial serialFrom servesAs waitsAs number o
     before firstOf
     written lastRow white hasRoom pelAt pelsTo bandTo rowPadded bandPadded leftOf rightOf context inFront cleared
     bits carried
-    octets.left byte due shifts pads cover finish bytes follows ended code rowOf rise fall flip next fresh
+    octets.left byte due shifts pads cover finish bytes follows ended code marked rowOf rise fall flip next fresh
     contextOf entryAt size sense taught
     placed move writing.after
 worked = record { answered = refl; served-in-order = refl; answered-again = refl; ends = refl; ends-again = refl }

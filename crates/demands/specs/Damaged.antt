@@ -1,10 +1,12 @@
--- Demand 2 of a read: the tests but that of 10, and what a code is that no band was written as. Assumes nothing.
-use mathlib.Core.Bool.{cond}
+-- Demand 2 of a read: "damaged" is 10 or 15; the other tests; what a code is that no band was written as. Assumes
+-- nothing.
+use mathlib.Core.Bool.{Bool, cond, _||_}
 use mathlib.Core.Option.{none}
 use mathlib.Core.List.{List, [], _∷_}
 use Prim.Native.Nat.{ℕ}
 use lib.Dec.{eqb}
 use Rattle.band.specs.Band.{Right}
+use Rattle.marker.specs.Marker.{marked}
 use Rattle.unique.specs.BandOfCode.{bandOfCode}
 use Rattle.desk.specs.declared.Ask.{Ask}
 use Rattle.desk.specs.Desk.{Page, Desk}
@@ -13,15 +15,23 @@ use Rattle.desk.specs.Calls.{reads}
 use Rattle.desk.specs.Standing.{pageOf, stand}
 use Rattle.desk.specs.Tests.{tests}
 
--- the tests of other numbers than n
-unfoldable pub without : ℕ → List Row → List Row
-without n [] = []
-without n (r ∷ rs) = cond (eqb (r .number) n) (without n rs) (r ∷ without n rs)
+-- the numbers that say "damaged"
+abbrev pub isDamage : ℕ → Bool
+isDamage n = eqb n 15 || eqb n 10
+
+-- the number of a damaged code: 15 where there is a marker, 10 where there is none
+abbrev pub damage : List ℕ → ℕ
+damage code = cond (marked code) 15 10
+
+-- the tests that do not say "damaged"
+unfoldable pub others : List Row → List Row
+others [] = []
+others (r ∷ rs) = cond (isDamage (r .number)) (others rs) (r ∷ others rs)
 
 module _ (d : Desk) (ask : Ask) (code out : List ℕ) where
   -- the number of the other tests, 0 where none of them refuses
   abbrev pub otherwise : ℕ
-  otherwise = refusal (without 10 (tests bandOfCode (reads ask code out) (stand d (ask .key))))
+  otherwise = refusal (others (tests bandOfCode (reads ask code out) (stand d (ask .key))))
 
   -- no band of that size would have been written so, from the state of the open page
   abbrev pub Unwritten : Type 0

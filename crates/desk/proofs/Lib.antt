@@ -4,3 +4,4 @@ pub mod Once
 pub mod OpenPages
 pub mod Passed
 pub mod Tests
+pub mod Lent

@@ -22,7 +22,7 @@ refusal (r ∷ rs) = cond (r .holds) (r .number) (refusal rs)
 
 -- The table's order. The sizes that need the page's width (pel length) are tested after 7.
 abbrev pub order : List ℕ
-order = 12 ∷ 1 ∷ 6 ∷ 3 ∷ 2 ∷ 7 ∷ 6 ∷ 11 ∷ 4 ∷ 5 ∷ 8 ∷ 9 ∷ 10 ∷ []
+order = 12 ∷ 1 ∷ 6 ∷ 3 ∷ 2 ∷ 7 ∷ 6 ∷ 11 ∷ 4 ∷ 5 ∷ 8 ∷ 9 ∷ 15 ∷ 10 ∷ []
 
 -- the numbers from n on
 unfoldable pub from : ℕ → List ℕ → List ℕ
@@ -34,6 +34,10 @@ unfoldable pub inOrder : List Row → List ℕ → Bool
 inOrder [] ns = true
 inOrder (r ∷ rs) ns = ltb 0 (length (from (r .number) ns)) && inOrder rs (from (r .number) ns)
 
--- a refusal leaves the lent output unchanged; 9 and 10 set all of it to zero
+-- the numbers that set all of the lent output to zero: no room, a marker, damaged
+abbrev pub zeroing : ℕ → Bool
+zeroing n = eqb n 9 || eqb n 15 || eqb n 10
+
+-- a refusal leaves the lent output unchanged, or sets all of it to zero
 unfoldable pub lentAfter : ℕ → List ℕ → List ℕ
-lentAfter n out = cond (eqb n 9 || eqb n 10) (cleared out) out
+lentAfter n out = cond (zeroing n) (cleared out) out

@@ -9,6 +9,7 @@ use Rattle.ground.specs.Options.{given}
 use Rattle.template.specs.Pels.{rowBytes, bandPadded}
 use Rattle.limits.specs.Limits.{maxWidth, maxRows, maxCode, contexts}
 use Rattle.band.specs.Band.{Written, written, hasRoom, Finder}
+use Rattle.marker.specs.Marker.{marked}
 use Rattle.desk.specs.declared.Key.{Key}
 use Rattle.desk.specs.Desk.{Page}
 use Rattle.desk.specs.Lawful.{within, lawfulKey}
@@ -61,6 +62,7 @@ module _ (finds : Finder) where
       ∷ row 2 (not (given (s .page)))
       ∷ row 7 (not (eqb (pageOf s .state) 2))
       ∷ row 9 (ltb (length out) (ask .rows * rowBytes (pageOf s .width)))
+      ∷ row 15 (marked code)
       ∷ row 10 (not (given (foundIn (pageOf s) (ask .rows) code)))
       ∷ []
   tests (closes k) s = unlawful s ∷ unknown k ∷ row 2 (not (given (s .page))) ∷ []

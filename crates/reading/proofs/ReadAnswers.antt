@@ -1,5 +1,7 @@
 -- Read band: when it is refused, and what it leaves of the desk and the lent output. Assumes nothing.
-use mathlib.Core.Path.{_≡_, refl, sym, ap, _∙_}
+use mathlib.Core.Path.{_≡_, refl, sym, ap, _∙_, subst}
+use mathlib.Core.Logic.{_≢_}
+use native.Mathlib.Omega.{arith}
 use Prim.Native.Nat.{ℕ, _*_}
 use mathlib.Core.Bool.{Bool, true, false, not, cond, _&&_}
 use mathlib.Core.Option.{Option, some, none}
@@ -12,7 +14,9 @@ use Rattle.ground.proofs.Bools.{no-way}
 use Rattle.ground.specs.Options.{given, orElse}
 use Rattle.store.specs.Store.{inFront, cleared}
 use Rattle.template.specs.Pels.{rowBytes}
-use Rattle.band.specs.Band.{Written}
+use Rattle.band.specs.Band.{Written, Right}
+use Rattle.marker.specs.Marker.{marked}
+use Rattle.marker.proofs.Never.{found-unmarked}
 use Rattle.reader.specs.declared.Read.{Read}
 use Rattle.reader.specs.Found.{rowsFit, readAnswer, readOut, BandFound}
 use Rattle.unique.specs.BandOfCode.{bandOfCode}
@@ -21,7 +25,7 @@ use Rattle.desk.specs.declared.Ask.{Ask}
 use Rattle.desk.specs.Desk.{Page, Desk}
 use Rattle.desk.specs.Places.{noPage}
 use Rattle.desk.specs.Lawful.{within}
-use Rattle.desk.specs.Refusals.{Row, row, refusal}
+use Rattle.desk.specs.Refusals.{Row, row, refusal, zeroing}
 use Rattle.desk.specs.Calls.{reads}
 use Rattle.desk.specs.Standing.{stand, pageOf, openPage}
 use Rattle.desk.specs.Tests.{unlawful, unknown, bandOf, foundIn, tests}
@@ -40,8 +44,19 @@ over a b = go (leb b a) refl
 -- the tests that need the page
 abbrev onPage : Ask → List ℕ → List ℕ → Page → List Row
 onPage ask code out p =
-    row 9 (ltb (length out) (ask .rows * rowBytes (p .width)))
+    row 9 (ltb (length out) (ask .rows * rowBytes (p .width))) ∷ row 15 (marked code)
     ∷ row 10 (not (given (foundIn bandOfCode p (ask .rows) code))) ∷ []
+
+-- the number of a code as which no band would have been written
+abbrev pub faultOf : List ℕ → ℕ
+faultOf code = cond (marked code) 15 10
+
+pub fault-is : (code : List ℕ) → (faultOf code ≢ 0) × (zeroing (faultOf code) ≡ true)
+fault-is code = go (marked code)
+  where
+    go : (m : Bool) → (_≢_ {A = ℕ} (cond m 15 10) 0) × (zeroing (cond m 15 10) ≡ true)
+    go true = (λ z. omega (arith, z), refl)
+    go false = (λ z. omega (arith, z), refl)
 
 -- both sizes that are tested first are right
 abbrev pub sizes : Ask → List ℕ → Bool
@@ -79,11 +94,13 @@ module _ (d : Desk) (ask : Ask) (code out : List ℕ) (i : ℕ) (t : StoodTo d (
   fits = rowsFit (page .width) (ask .rows) out
 
   on : number bandOfCode d (reads ask code out)
-      ≡ refusal (row 9 (not fits) ∷ row 10 (not (given (foundIn bandOfCode page (ask .rows) code))) ∷ [])
+      ≡ refusal (row 9 (not fits) ∷ row 15 (marked code)
+      ∷ row 10 (not (given (foundIn bandOfCode page (ask .rows) code))) ∷ [])
   unfolding rowsFit
   on =
       read-number d ask code out ∙ t .rest _ ∙ ap (λ (p : Page). refusal (onPage ask code out p)) at
-      ∙ ap (λ (x : Bool). refusal (row 9 x ∷ row 10 (not (given (foundIn bandOfCode page (ask .rows) code))) ∷ []))
+      ∙ ap (λ (x : Bool). refusal (row 9 x ∷ row 15 (marked code)
+      ∷ row 10 (not (given (foundIn bandOfCode page (ask .rows) code))) ∷ []))
       (over (length out) (ask .rows * rowBytes (page .width)))
 
   -- what reading gives, with a band and without room
@@ -133,10 +150,11 @@ module _ (d : Desk) (ask : Ask) (code out : List ℕ) (i : ℕ) (t : StoodTo d (
     found-is = sym (right-found (page .width) (ask .rows) (page .table .entries) (page .last) code (b .found)
         (b .right (sym room-is ∙ room)))
 
-    told : number bandOfCode d (reads ask code out) ≡ refusal (row 10 (not (given (b .found))) ∷ [])
+    told : number bandOfCode d (reads ask code out)
+        ≡ refusal (row 15 (marked code) ∷ row 10 (not (given (b .found))) ∷ [])
     told =
         on ∙ past _ _ (ap not (sym room-is ∙ room))
-        ∙ ap (λ (f : Option (List ℕ)). refusal (row 10 (not (given f)) ∷ [])) found-is
+        ∙ ap (λ (f : Option (List ℕ)). refusal (row 15 (marked code) ∷ row 10 (not (given f)) ∷ [])) found-is
 
     -- it was told good where a band was found
     good-is : r .good ≡ given (b .found)
@@ -148,8 +166,9 @@ module _ (d : Desk) (ask : Ask) (code out : List ℕ) (i : ℕ) (t : StoodTo d (
         go none = refl
         go (some band) = rw (sym room-is ∙ room)
 
-    pub read-damaged : r .good ≡ false → number bandOfCode d (reads ask code out) ≡ 10
-    read-damaged e = told ∙ here _ _ (ap not (sym good-is ∙ e))
+    pub read-damaged : r .good ≡ false → number bandOfCode d (reads ask code out) ≡ faultOf code
+    unfolding refusal
+    read-damaged e = told ∙ ap (λ (g : Bool). refusal (row 15 (marked code) ∷ row 10 (not g) ∷ [])) (sym good-is ∙ e)
 
     pub damaged-out : r .good ≡ false → after ≡ cleared out
     unfolding readOut
@@ -172,8 +191,14 @@ module _ (d : Desk) (ask : Ask) (code out : List ℕ) (i : ℕ) (t : StoodTo d (
           go none g = no-way (sym g)
           go (some l) g = refl
 
+      unmarked : marked code ≡ false
+      unmarked =
+          found-unmarked (page .width) (ask .rows) (page .table .entries) (page .last) code band
+          (subst (Right (page .width) (ask .rows) (page .table .entries) (page .last) code) is-band
+          (b .right (sym room-is ∙ room)))
+
       pub read-end : number bandOfCode d (reads ask code out) ≡ 0
-      read-end = told ∙ past _ _ (ap not (sym good-is ∙ good)) ∙ at-end
+      read-end = told ∙ past _ _ unmarked ∙ past _ _ (ap not (sym good-is ∙ good)) ∙ at-end
 
       pub read-gave : r ≡ answered band
       unfolding readAnswer bandOf

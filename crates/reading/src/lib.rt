@@ -1,4 +1,7 @@
-// The call that reads a band. The book goes by value; the arrays are lent in place.
+// The call that reads a band, and what is the matter with a code that is no band's. The book goes by value; the arrays are lent in place.
+ghost use mathlib.Core.Path.{_≡_};
+ghost use mathlib.Core.Bool.{cond};
+ghost use Rattle.marker.specs.Marker.{marked};
 ghost use Rattle.parts.specs.Parts.{partsOf, Sized};
 ghost use Rattle.desk.specs.Calls.{reads};
 ghost use Rattle.parts.specs.Replies.{Serves};
@@ -14,6 +17,16 @@ use limits::ROW;
 use parts::Book;
 use parts::Reply;
 use refusals::Stands;
+
+// A code as which no band would have been written: it has a marker, or it is damaged otherwise.
+fn fault(code: &[u8]) -> u64
+    ensures { λ r. ⌜ r ≡ cond (marked (now (code .entry))) 15 10 ⌝ }
+{
+    if marker::marked(code) {
+        return 15;
+    }
+    10
+}
 
 // Read band: the rows that would have been written as exactly that code. The page's table and last row go on as the
 // writer's did.
@@ -51,7 +64,7 @@ pub fn read<'a, 'b, 'c>(
         return parts::refused(9, book);
     }
     if !read.good {
-        return parts::refused(10, book);
+        return parts::refused(fault(code), book);
     }
     let row = read.last;
     let next = parts::put_page(book, working, rows, i, page, read.table, row);

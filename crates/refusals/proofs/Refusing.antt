@@ -3,11 +3,10 @@ use mathlib.Core.Path.{_≡_, refl, sym, ap, ap₂, _∙_}
 use mathlib.Core.Logic.{_≢_}
 use Prim.Native.Nat.{ℕ, zero, suc}
 use native.Mathlib.Omega.{arith}
-use mathlib.Core.Bool.{Bool, true, false, cond, not, _||_}
+use mathlib.Core.Bool.{Bool, true, false, cond, not}
 use mathlib.Core.List.{List, [], _∷_}
 use lib.Dec.{eqb}
 use lib.ListN.{getD}
-use borrow.Author.Tests.{ne-eqb}
 use Rattle.ground.proofs.Bools.{no-way}
 use Rattle.ground.specs.Options.{given, orElse}
 use Rattle.store.specs.Store.{cleared}
@@ -30,7 +29,7 @@ use Rattle.parts.specs.Lines.{noPageLine}
 use Rattle.parts.proofs.Lines.{page-in, find-pages}
 use Rattle.parts.proofs.Puts.{whole-as}
 use Rattle.desk.specs.Lawful.{lawfulKey, lawful}
-use Rattle.desk.specs.Refusals.{Row, row, refusal, lentAfter}
+use Rattle.desk.specs.Refusals.{Row, row, refusal, zeroing, lentAfter}
 use Rattle.desk.specs.Calls.{Call, keyOf, lentTo}
 use Rattle.desk.specs.Standing.{stand, openPage, pageBy}
 use Rattle.desk.specs.Tests.{unlawful, unknown}
@@ -57,7 +56,7 @@ at-end = refl
 
 -- a refusal that leaves the lent output as it was
 abbrev pub Plain : ℕ → Type 0
-Plain n = (n ≢ 0) × (n ≢ 9) × (n ≢ 10)
+Plain n = (n ≢ 0) × (zeroing n ≡ false)
 
 abbrev isOn : Stands → Bool
 isOn (On i) = true
@@ -75,13 +74,13 @@ module _ (d : Desk) (k : Key) (sized : Bool) where
 
   module _ (n : ℕ) (first : n ≡ early (lawful d) (lawfulKey k) sized) where
     pub early-plain : n ≢ 0 → Plain n
-    early-plain h = let e = go (lawful d) (lawfulKey k) sized first in (h, e .0, e .1)
+    early-plain h = (h, ap zeroing first ∙ go (lawful d) (lawfulKey k) sized)
       where
-        go : (g k s : Bool) → n ≡ early g k s → (n ≢ 9) × (n ≢ 10)
-        go true true true e = (λ z. omega arith, λ z. omega arith)
-        go true true false e = (λ z. omega arith, λ z. omega arith)
-        go true false s e = (λ z. omega arith, λ z. omega arith)
-        go false k s e = (λ z. omega arith, λ z. omega arith)
+        go : (g k s : Bool) → zeroing (early g k s) ≡ false
+        go true true true = refl
+        go true true false = refl
+        go true false s = refl
+        go false k s = refl
 
     pub early-here : n ≢ 0 → (rest : List Row) → refusal (front rest) ≡ n
     unfolding refusal stand
@@ -133,17 +132,15 @@ module _ (d : Desk) (k : Key) (sized : Bool) where
         (t .0, λ rs. rw (found-page d (pageFound d k)) (t .1 (refusal rs)))
       where
         by : (m : ℕ) → Refused m ≡ Refused n → Plain m → (m ≡ n) × Plain n
-        by m e p = let q = ap numberOf e in (q, (λ z. p .0 (q ∙ z), λ z. p .1 (q ∙ z), λ z. p .2 (q ∙ z)))
+        by m e p = let q = ap numberOf e in (q, (λ z. p .0 (q ∙ z), sym (ap zeroing q) ∙ p .1))
 
         go : (g k z : Bool) (f : Found) → standing g k z f ≡ Refused n
             → Plain n × ((m : ℕ) → cond (not g) 12 (cond (not k) 1 (cond (not z) 6 (cond (not (isFound f)) 2 m))) ≡ n)
         go true true true (At i) e = no-way (ap isOn e)
-        go true true true Nothing e = let b = by 2 e (λ z. omega arith, λ z. omega arith, λ z. omega arith) in
-            (b .1, λ m. b .0)
-        go true true false f e = let b = by 6 e (λ z. omega arith, λ z. omega arith, λ z. omega arith) in
-            (b .1, λ m. b .0)
-        go true false z f e = let b = by 1 e (λ z. omega arith, λ z. omega arith, λ z. omega arith) in (b .1, λ m. b .0)
-        go false k z f e = let b = by 12 e (λ z. omega arith, λ z. omega arith, λ z. omega arith) in (b .1, λ m. b .0)
+        go true true true Nothing e = let b = by 2 e (λ z. omega arith, refl) in (b .1, λ m. b .0)
+        go true true false f e = let b = by 6 e (λ z. omega arith, refl) in (b .1, λ m. b .0)
+        go true false z f e = let b = by 1 e (λ z. omega arith, refl) in (b .1, λ m. b .0)
+        go false k z f e = let b = by 12 e (λ z. omega arith, refl) in (b .1, λ m. b .0)
 
     pub stood : (i : ℕ) → s ≡ On i → Stood i
     unfolding refusal stand standing onPage
@@ -185,7 +182,7 @@ module _ (d : Desk) (k : Key) (sized : Bool) where
                 turn true g e = no-way (ap isOn e)
                 turn false g e =
                     let q : 7 ≡ n = ap numberOf e in (
-                      (λ z. omega arith, λ z. omega arith, λ z. omega arith),
+                      (λ z. omega arith, sym (ap zeroing q)),
                       λ rs. stood i f .rest _
                           ∙ here _ rs (ap not (ap (λ (x : ℕ). eqb x way) (at i (stood i f .found)) ∙ g)) ∙ q,
                     )
@@ -286,7 +283,7 @@ accepts p c x book working rows learned after w e q a l =
 -- the lent output after a refusal: none is lent; it is kept; it is set to zero
 pub nothing-lent : (n : ℕ) → [] ≡ lentAfter n []
 unfolding lentAfter cleared
-nothing-lent n = go (eqb n 9 || eqb n 10)
+nothing-lent n = go (zeroing n)
   where
     go : (b : Bool) → [] ≡ cond b (cleared []) []
     go true = refl
@@ -294,11 +291,11 @@ nothing-lent n = go (eqb n 9 || eqb n 10)
 
 pub keeps : (n : ℕ) (out : List ℕ) → Plain n → out ≡ lentAfter n out
 unfolding lentAfter
-keeps n out i = rw (ne-eqb n 9 (i .1), ne-eqb n 10 (i .2))
+keeps n out i = rw (i .1)
 
-pub clears : (out : List ℕ) → cleared out ≡ lentAfter 9 out
+pub clears : (n : ℕ) (out : List ℕ) → zeroing n ≡ true → cleared out ≡ lentAfter n out
 unfolding lentAfter
-clears out = refl
+clears n out z = rw z
 
 -- ---- what was found in the book stands for what is found in the desk
 module _ (p : Parts) (w : Whole p) where

@@ -12,18 +12,18 @@ use Rattle.parts.specs.Lines.{noPageLine}
 use Rattle.parts.proofs.Puts.{page-as}
 use Rattle.desk.specs.Lawful.{within}
 use Rattle.desk.proofs.OpenPages.{LawfulOpen, within-both}
-use Rattle.desk.specs.Refusals.{lentAfter}
 use Rattle.desk.specs.Calls.{reads}
 use Rattle.desk.specs.Standing.{stand, pageOf}
 use Rattle.desk.specs.Tests.{bandOf}
-use Rattle.parts.specs.Replies.{doneBy}
+use Rattle.parts.specs.Replies.{refusedBy, doneBy}
 use Rattle.refusals.proofs.Refusing.{StoodTo, turned-to, standing-to, turns-away, refuses, keeps, clears}
 use Rattle.refusals.proofs.Served.{pageIn, page-is, open-in, band-done}
 use lib.Dec.{leb}
 use Rattle.limits.specs.Limits.{maxCode}
 use Rattle.ground.proofs.Bools.{both}
 use Rattle.reader.specs.declared.Read.{Read}
-use Rattle.reading.proofs.ReadAnswers.{sizes, read-number, read-room, read-full, read-damaged, damaged-out}
+use Rattle.reading.proofs.ReadAnswers.{sizes, faultOf, fault-is, read-number, read-room, read-full}
+use Rattle.reading.proofs.ReadAnswers.{read-damaged, damaged-out}
 use Rattle.reading.proofs.ReadAnswers.{band, read-end, read-gave, read-lent, read-effect}
 use borrow.Author.Needs.{needs}
 use Rattle.reading.proofs.read.Statement.{statement}
@@ -155,12 +155,12 @@ returns-2 c =
     (read-room (deskOf p) (a .ask) (a .code .now) (a .out .now) i t (pageIn p i) m (r .result) _ (r .ensures) o)
     (λ z. omega arith) (c .refused .ensures)
     (read-full (deskOf p) (a .ask) (a .code .now) (a .out .now) i t (pageIn p i) m (r .result) _ (r .ensures) o
-    ∙ clears (a .out .now))
+    ∙ clears 9 (a .out .now) refl)
 
 returns-3 : tie.Need-returns-3
-unfolding lentAfter
 returns-3 c =
-    let y = roomy (c .before .before) in
+    let x = c .before .before in
+    let y = roomy (x .before) in
     let b = decoded (y .before) in
     let f = found (b .before) in
     let a = start (sought f) .args in
@@ -170,11 +170,14 @@ returns-3 c =
     let m = met f in
     let r = b .read-band in
     let o = not-false (r .result .room) (y .if1 .left) in
-    let e = not-true (r .result .good) (c .before .if2 .taken) in
-    refuses p (whole (sought f)) (reads (a .ask) (a .code .now) (a .out .now)) 10 (c .refused2 .result) _
+    let e = not-true (r .result .good) (x .if2 .taken) in
+    let n = fault-is (a .code .now) in
+    refuses p (whole (sought f)) (reads (a .ask) (a .code .now) (a .out .now)) (faultOf (a .code .now))
+    (c .refused2 .result) _
     (read-damaged (deskOf p) (a .ask) (a .code .now) (a .out .now) i t (pageIn p i) m (r .result) _ (r .ensures) o e)
-    (λ z. omega arith) (c .refused2 .ensures)
-    (damaged-out (deskOf p) (a .ask) (a .code .now) (a .out .now) i t (pageIn p i) m (r .result) _ (r .ensures) o e)
+    (n .0) (c .refused2 .ensures ∙ ap (λ (k : ℕ). refusedBy k (a .book)) (c .before .fault .ensures))
+    (damaged-out (deskOf p) (a .ask) (a .code .now) (a .out .now) i t (pageIn p i) m (r .result) _ (r .ensures) o e
+    ∙ clears _ (a .out .now) (n .1))
 
 put-page-requires : tie.Need-put-page-requires
 put-page-requires c κs =
@@ -214,5 +217,5 @@ read-spec =
     (tie.spec (λ c κs. search needs) (λ c κs. search needs) (λ c κs. search needs) (λ c. search needs)
     (λ c. search needs) (λ c κs. search needs) returns (λ c. let h = slot-within c in omega arith) slot-within
     mul-entries entries-within mul-last last-within read-band-requires (λ c κs. search needs) (λ c. search needs)
-    returns-2 (λ c κs. search needs) (λ c. search needs) returns-3 put-page-requires (λ c κs. search needs)
+    returns-2 (λ c κs. search needs) (λ c κs. search needs) (λ c. search needs) returns-3 put-page-requires (λ c κs. search needs)
     (λ c. search needs) returns-4)

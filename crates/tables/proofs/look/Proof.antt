@@ -1,5 +1,5 @@
 -- Look answers and shows the table as document 01 says. Assumes nothing.
-use mathlib.Core.Path.{_≡_, sym, ap, _∙_}
+use mathlib.Core.Path.{_≡_, refl, sym, ap, _∙_}
 use Prim.Native.Nat.{_<_}
 use mathlib.Core.Bool.{Bool, true}
 use native.Mathlib.Omega.{arith}
@@ -93,7 +93,7 @@ returns-2 c =
     refuses p (whole s) (looks (a .key) (a .out .now)) 11 (c .refused2 .result) _
     (look-untaught (deskOf p) (a .key) _ (asked s) (a .out .now) (admitted h .if1 .left)
     (finds-table h ∙ c .before .enum-told .given .1)) (λ z. omega arith) (c .refused2 .ensures)
-    (keeps 11 (a .out .now) (λ z. omega arith, λ z. omega arith, λ z. omega arith))
+    (keeps 11 (a .out .now) (λ z. omega arith, refl))
 
 is-taught : (c : tie.After-known-told) →
     let b = start (tested (looked c)) in
@@ -115,7 +115,7 @@ returns-3 c =
     refuses p (whole s) (looks (a .key) (a .out .now)) 9 (c .refused3 .result) _
     (look-room (deskOf p) (a .key) _ (asked s) (a .out .now) (admitted h .if1 .left) _ (is-taught f)
     (omega (arith, y .if2 .taken))) (λ z. omega arith) (c .refused3 .ensures)
-    (cleared c .clear .ensures ∙ clears (a .out .now))
+    (cleared c .clear .ensures ∙ clears 9 (a .out .now) refl)
 
 returns-4 : tie.Need-returns-4
 returns-4 c =

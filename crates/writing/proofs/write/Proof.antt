@@ -141,7 +141,7 @@ returns-2 c =
     (write-pels (deskOf p) (a .ask) (a .pels .now) (a .out .now) _ (there f) _ (met f)
     (λ e. c .before .if1 .taken (e ∙ ap (λ (k : ℕ). a .ask .rows * k) (sym (m .row-bytes .ensures)))))
     (λ z. omega arith) (c .refused .ensures)
-    (keeps 6 (a .out .now) (λ z. omega arith, λ z. omega arith, λ z. omega arith))
+    (keeps 6 (a .out .now) (λ z. omega arith, refl))
 
 is-exact : (c : tie.Else1) →
     let a = start (sought (found c)) .args in
@@ -164,7 +164,7 @@ returns-3 c =
     refuses p (whole (sought f)) (writes (a .ask) (a .pels .now) (a .out .now)) 8 (c .refused2 .result) _
     (write-padding (deskOf p) (a .ask) (a .pels .now) (a .out .now) _ (there f) _ (met f) (is-exact l)
     (sym (b .ensures) ∙ not-true (b .result) (c .before .if2 .taken))) (λ z. omega arith) (c .refused2 .ensures)
-    (keeps 8 (a .out .now) (λ z. omega arith, λ z. omega arith, λ z. omega arith))
+    (keeps 8 (a .out .now) (λ z. omega arith, refl))
 
 is-padded : (c : tie.Else2) →
     let f = found (exact c) in
@@ -207,7 +207,7 @@ returns-4 c =
     (w .ensures .0) e) (λ z. omega arith) (c .refused3 .ensures)
     (w .ensures .1
     ∙ cleared-out (deskOf p) (a .ask) (a .pels .now) (a .out .now) _ (there f) _ (met f) l q (w .result)
-    (w .ensures .0) e ∙ clears (a .out .now))
+    (w .ensures .0) e ∙ clears 9 (a .out .now) refl)
 
 put-page-requires : tie.Need-put-page-requires
 put-page-requires c κs =
