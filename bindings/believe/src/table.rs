@@ -21,7 +21,7 @@ pub const THEOREMS: &[(&str, &[&str])] = &[
     // demand 1
     ("demands", &["answers", "in-table", "refused", "alone", "all-zero", "accepted"]),
     // demand 2
-    ("demands", &["wrote", "read-back", "damaged", "only-then"]),
+    ("demands", &["wrote", "read-back", "damaged", "only-then", "marker-told"]),
     // demand 3
     ("demands", &["any-order", "as-run", "any-history"]),
     // document 01: pels; the fresh table; the table of source document 000
@@ -30,8 +30,10 @@ pub const THEOREMS: &[(&str, &[&str])] = &[
     // its bytes: at most 8F after an FF; their number; 12 + S bits, and what follows; the length law; the end told
     ("band", &["code-lawful", "code-value", "code-covers", "code-length", "code-one", "code-last"]),
     ("unique", &["end-told"]),
-    // its refusals: their order; a lawful desk stays lawful; what other keys and looks see
-    ("desk", &["in-order"]),
+    // its refusals: their order; the lent output after each; what no code has (request E4); a lawful desk stays
+    // lawful; what other keys and looks see
+    ("desk", &["in-order", "each-lent"]),
+    ("marker", &["code-unmarked", "marked-damaged"]),
     ("kept", &["empty-lawful", "call-lawful", "call-keeps", "call-leaves", "band-tables", "band-looks"]),
     // P1 to P11
     ("band", &["worked"]),
@@ -57,7 +59,7 @@ pub const SECTIONS: &[(&str, &[&str])] = &[
         "interval", "octets", "coder/Writing", "coder", "store", "band/Band", "exact", "band",
     ]),
     ("Refusal numbers, in the order they are tested", &[
-        "desk/Lawful", "desk/Refusals", "desk/Tests", "desk/Allowed", "kept",
+        "desk/Lawful", "desk/Refusals", "desk/Lent", "marker", "desk/Tests", "desk/Allowed", "kept",
     ]),
     ("Bands worked by hand", &["band/Worked"]),
     ("How much each public call must say", &[
