@@ -123,9 +123,17 @@ enum siftpebble_number {
      */
     SIFTPEBBLE_NO_ROOM = 9,
     /*
-     * Read: no band of that width and height would, from the page's working
-     * table and last row, have been written as those bytes. All of the output
-     * is set to zero. The page stays open, and the band may be sent again.
+     * Read: a marker: not a code of ours. Somewhere in the code a byte of 90
+     * (hexadecimal) or more stands just after an FF; no band is written so.
+     * All of the output is set to zero. The page stays open, and the band may
+     * be sent again.
+     */
+    SIFTPEBBLE_MARKER = 15,
+    /*
+     * Read: the code has no marker, but no band of that width and height
+     * would, from the page's working table and last row, have been written as
+     * those bytes. All of the output is set to zero. The page stays open, and
+     * the band may be sent again.
      */
     SIFTPEBBLE_DAMAGED = 10
 };
@@ -166,8 +174,9 @@ struct siftpebble_answer siftpebble_write(struct siftpebble_desk *desk,
 /*
  * Reads the code of a band of 1 to 64 rows: the rows come into the front of
  * the lent output, whose other bytes are kept. Answers the bytes of all rows
- * and S. A code that ends in FF is damaged, since no band is written so.
- * Refusals: 12, 1, 6, 2, 7, 9, 10.
+ * and S. A code that ends in FF is not read, since no band is written so: it
+ * is damaged, unless it has a marker.
+ * Refusals: 12, 1, 6, 2, 7, 9, 15, 10.
  */
 struct siftpebble_answer siftpebble_read(struct siftpebble_desk *desk,
                                          uint64_t school, uint64_t cls,

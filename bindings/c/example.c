@@ -1,7 +1,8 @@
 /*
  * A caller of the desk that is both C and C++: pages are written for one
  * class, and read back for another that starts from the same fresh table. It
- * writes each code as the cases of document 01 are written.
+ * writes each code as the cases of document 01 are written. In the end it reads
+ * what is not a code of ours.
  */
 
 #include "siftpebble.h"
@@ -49,6 +50,20 @@ static void send_band(struct siftpebble_desk *desk, const char *name,
     }
 }
 
+/* Reads the first bytes of another kind of file, which have a marker. */
+static void send_other_file(struct siftpebble_desk *desk)
+{
+    const uint8_t file[] = {0xFF, 0xD8};
+    uint8_t rows[ROOM];
+    struct siftpebble_answer answer =
+        siftpebble_read(desk, SCHOOL, READER, 1, file, sizeof file, rows, sizeof rows);
+    if (answer.number != SIFTPEBBLE_MARKER) {
+        fprintf(stderr, "marker: answered %u\n", (unsigned)answer.number);
+        exit(EXIT_FAILURE);
+    }
+    printf("marker: refused %u\n", (unsigned)answer.number);
+}
+
 int main(void)
 {
     struct siftpebble_desk *desk =
@@ -68,6 +83,7 @@ int main(void)
     require(siftpebble_drop(desk, SCHOOL, WRITER), "drop");
     open_both(desk, 13);
     send_band(desk, "last FF", thirteen, sizeof thirteen);
+    send_other_file(desk);
     free(desk);
     return EXIT_SUCCESS;
 }

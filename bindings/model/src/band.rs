@@ -43,6 +43,13 @@ pub fn clean(row: &[u8], width: usize) -> bool {
     row.last().is_none_or(|byte| byte & padding(width) == 0)
 }
 
+/// Whether a byte of 90 or more stands just after an FF. No writer makes such
+/// a pair, so a code with one is not merely damaged (request E4).
+pub fn has_marker(code: &[u8]) -> bool {
+    let mut pairs = code.windows(2);
+    pairs.any(|pair| pair[0] == 0xFF && pair[1] >= 0x90)
+}
+
 /// The context of a row's first pel: only the row above has black neighbours.
 fn first_context(above: &[u8]) -> usize {
     usize::from(above[0] >> 3 & 0b11100)
@@ -105,7 +112,8 @@ pub fn write(
 }
 
 /// Reads a code into the whole of `out` and moves the state on.
-/// When refused, the state is as before and `out` is spoiled.
+/// When refused, the state is as before and `out` is spoiled. A marker is not
+/// looked for: a code with one is damaged like any other.
 pub fn read(state: &mut State, width: usize, code: &[u8], out: &mut [u8]) -> Result<Band, Refusal> {
     let mut reader = Reader::new(code);
     let State {

@@ -57,7 +57,7 @@ fn require(holds: bool, refusal: Refusal) -> Answer<()> {
     holds.then_some(()).ok_or(refusal)
 }
 
-/// "No room" and "damaged" set all of the lent output to zero.
+/// "No room", "marker" and "damaged" set all of the lent output to zero.
 fn clear_if_refused<T>(answer: Answer<T>, out: &mut [u8]) -> Answer<T> {
     if answer.is_err() {
         out.fill(0);
@@ -217,8 +217,9 @@ impl Desk {
         let width = page.width as usize;
         let length = rows as usize * band::row_bytes(width);
         let answer = match out.get_mut(..length) {
-            Some(front) => band::read(&mut page.state, width, code, front),
             None => Err(Refusal::NoRoom),
+            Some(_) if band::has_marker(code) => Err(Refusal::Marker),
+            Some(front) => band::read(&mut page.state, width, code, front),
         };
         clear_if_refused(answer, out)
     }

@@ -1,6 +1,7 @@
 //! The refusal numbers.
 
-/// The twelve refusals, each with its number in document 01's table.
+/// The refusals, each with its number: 1 to 12 are in document 01's table, 15
+/// is request E4's.
 #[derive(Clone, Copy, Debug, PartialEq, Eq)]
 pub enum Refusal {
     Key = 1,
@@ -15,4 +16,5 @@ pub enum Refusal {
     Damaged = 10,
     NoTable = 11,
     Unlawful = 12,
+    Marker = 15,
 }

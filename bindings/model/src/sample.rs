@@ -348,10 +348,11 @@ pub fn width(random: &mut Random) -> usize {
     }
 }
 
-/// A code that is probably no band's: cut, extended, changed or made up.
+/// A code that is probably no band's: cut, extended, changed, made up, or with
+/// a marker put in.
 pub fn spoiled(random: &mut Random, good: &[u8]) -> Vec<u8> {
     let mut code = good.to_vec();
-    match random.below(10) {
+    match random.below(12) {
         0 => code.truncate(good.len() - 1),
         1 => code.truncate(random.below(good.len())),
         2 => code.push(0),
@@ -366,7 +367,36 @@ pub fn spoiled(random: &mut Random, good: &[u8]) -> Vec<u8> {
             let length = random.below(6);
             code = random.bytes(length);
         }
+        9 => code = with_ff(random, good),
+        10 => code = after_ff(random, good),
         _ => code = other_form(random, good),
+    }
+    code
+}
+
+/// A byte to stand after an FF: three of four make a marker, and the fourth
+/// nearly does.
+fn about_90(random: &mut Random) -> u8 {
+    let any = random.between(0x90, 0xFF) as u8;
+    random.pick(&[0x8F, 0x90, 0xFF, any])
+}
+
+/// The code with an FF, and a byte after it, over what stands at any place in
+/// it, between two of its bytes, or behind it.
+pub fn with_ff(random: &mut Random, good: &[u8]) -> Vec<u8> {
+    let at = random.below(good.len() + 1);
+    let over = random.pick(&[0, 2]);
+    let end = good.len().min(at + over);
+    let pair = [0xFF, about_90(random)];
+    [&good[..at], &pair, &good[end..]].concat()
+}
+
+/// The code with another byte after one of its own FFs, where it has one.
+fn after_ff(random: &mut Random, good: &[u8]) -> Vec<u8> {
+    let mut code = good.to_vec();
+    let after: Vec<usize> = (1..good.len()).filter(|&at| good[at - 1] == 0xFF).collect();
+    if !after.is_empty() {
+        code[random.pick(&after)] = about_90(random);
     }
     code
 }

@@ -62,7 +62,7 @@ fn look(room: usize) -> Act {
 }
 
 /// The call is refused with this number; the desk is as before, the lent
-/// output too, or all zero for 9 and 10.
+/// output too, or all zero for 9, 10 and 15.
 fn refuses(desk: Desk, key: Key, act: Act, number: u64) {
     let call = Call { key, act };
     let mut after = desk.clone();
@@ -75,7 +75,7 @@ fn refuses(desk: Desk, key: Key, act: Act, number: u64) {
     assert_eq!(outcome.answer, refusal, "{call:?}");
     assert_eq!(after, desk);
     let mut lent = call.act.lent().to_vec();
-    if matches!(number, 9 | 10) {
+    if matches!(number, 9 | 10 | 15) {
         lent.fill(0);
     }
     assert_eq!(outcome.lent, lent);
@@ -146,6 +146,23 @@ fn read_in_order() {
     refuses(reading(9), KEY, read(2, &[], 3), 9);
     refuses(reading(9), KEY, read(2, &[], 4), 10);
     refuses(reading(9), KEY, read(2, &[0; 32_768], 99), 10);
+}
+
+/// A marker is seen only where nothing else but damage is left to be tested.
+#[test]
+fn a_marker_comes_just_before_damage() {
+    let marker = [0xFF, 0x90];
+    let long = [&[0; 32_767][..], &marker].concat();
+    refuses(unlawful(), KEY, read(1, &marker, 9), 12);
+    refuses(reading(9), BAD, read(1, &marker, 9), 1);
+    refuses(reading(9), KEY, read(0, &marker, 9), 6);
+    refuses(reading(9), KEY, read(1, &long, 9), 6);
+    refuses(Desk::default(), KEY, read(1, &marker, 9), 2);
+    refuses(writing(9), KEY, read(1, &marker, 9), 7);
+    refuses(reading(9), KEY, read(2, &marker, 0), 9);
+    refuses(reading(9), KEY, read(2, &marker, 3), 9);
+    refuses(reading(9), KEY, read(2, &marker, 4), 15);
+    refuses(reading(9), KEY, read(2, &long[1..], 99), 15);
 }
 
 #[test]

@@ -37,10 +37,12 @@
 //! ```
 
 mod limits;
+mod marker;
 mod refusal;
 pub mod sys;
 
 pub use limits::*;
+pub use marker::first_marker;
 pub use refusal::Refusal;
 
 use sys::Answer;
@@ -255,10 +257,12 @@ impl Desk {
     /// Reads the code of a band of 1 to [`MAX_ROWS`] rows: the packed rows come
     /// into the front of `out`, and the rest of `out` is kept.
     ///
-    /// A code is [`Refusal::Damaged`] exactly when no band of that width and
-    /// height would, from the page's working table and last row, have been
-    /// written as those bytes; no band is written with FF as its last byte. The
-    /// page stays open then, and the band may be sent again. That refusal and
+    /// A code is read exactly when a band of that width and height would, from
+    /// the page's working table and last row, have been written as those bytes.
+    /// No band is written with FF as its last byte, nor with a byte of 90 or
+    /// more just after an FF: a code with such a marker is [`Refusal::Marker`],
+    /// and any other that is not read is [`Refusal::Damaged`]. The page stays
+    /// open then, and the band may be sent again. Those two refusals and
     /// [`Refusal::NoRoom`] set all of `out` to zero; every other refusal leaves
     /// it alone.
     ///
@@ -271,6 +275,7 @@ impl Desk {
     /// let mut out = [0xA5; 2];
     /// assert_eq!(desk.read(key, 1, &[0xAC, 0x11], &mut out), Err(Refusal::Damaged));
     /// assert_eq!(out, [0, 0]);
+    /// assert_eq!(desk.read(key, 1, &[0xFF, 0x90], &mut out), Err(Refusal::Marker));
     /// assert_eq!(desk.read(key, 1, &[0x00, 0x00], &mut out)?.length, 1);
     /// assert_eq!(out, [0x80, 0]);
     /// # Ok(())

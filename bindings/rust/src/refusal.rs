@@ -41,13 +41,17 @@ pub enum Refusal {
     /// than [`TABLE_BYTES`](crate::TABLE_BYTES). All of the buffer is set to
     /// zero.
     NoRoom = 9,
-    /// No band would have been written as these bytes. All of the buffer is set
-    /// to zero; the page stays open.
+    /// The code has no marker, but no band would have been written as these
+    /// bytes. All of the buffer is set to zero; the page stays open.
     Damaged = 10,
     /// The class has no learned table.
     NoTable = 11,
     /// The desk's bytes are no lawful desk.
     UnlawfulDesk = 12,
+    /// The code has a marker, a byte of 90 or more just after an FF: it is not
+    /// a code of ours. [`first_marker`](crate::first_marker) finds it. All of
+    /// the buffer is set to zero; the page stays open.
+    Marker = 15,
 }
 
 impl Refusal {
@@ -65,9 +69,11 @@ impl Refusal {
         Refusal::Damaged,
         Refusal::NoTable,
         Refusal::UnlawfulDesk,
+        Refusal::Marker,
     ];
 
-    /// The refusal's number in document 01's table.
+    /// The refusal's number: up to 12 in document 01's table, and 15 in request
+    /// E4.
     pub fn number(self) -> u64 {
         self as u64
     }
@@ -94,6 +100,7 @@ impl fmt::Display for Refusal {
             Refusal::Damaged => write!(f, "the code is damaged"),
             Refusal::NoTable => write!(f, "the class has no learned table"),
             Refusal::UnlawfulDesk => write!(f, "the desk is not lawful"),
+            Refusal::Marker => write!(f, "the code has a marker: it is not a code of ours"),
         }
     }
 }

@@ -1,8 +1,10 @@
 //! From a new page, for every size of up to 8 pels: all codes of up to so many
-//! bytes are read, and exactly as many are accepted as bands are written so.
-//! The same of some longer codes, for a size at which one has a last FF.
+//! bytes are read, and exactly as many are accepted as bands are written so;
+//! exactly those with a marker are refused as such. The same of some longer
+//! codes, for a size at which one has a last FF.
 
 use siftpebble::{Desk, Key, Refusal};
+use siftpebble_model::band::has_marker;
 use std::collections::BTreeMap;
 use std::thread;
 
@@ -43,13 +45,18 @@ fn codes(width: usize, rows: usize) -> BTreeMap<Vec<u8>, Vec<u8>> {
     (0..1 << (width * rows)).map(write).collect()
 }
 
-/// The rows of a code, a byte each; none of a damaged one.
+/// The rows of a code, a byte each; none of one that is refused, which it is
+/// for its marker if it has one.
 fn read(desk: &mut Desk, rows: usize, code: &[u8]) -> Option<Vec<u8>> {
     let mut out = [0; 8];
     match desk.read(KEY, rows as u64, code, &mut out) {
         Ok(_) => Some(out[..rows].to_vec()),
         Err(refusal) => {
-            assert_eq!(refusal, Refusal::Damaged);
+            let expected = match has_marker(code) {
+                true => Refusal::Marker,
+                false => Refusal::Damaged,
+            };
+            assert_eq!(refusal, expected, "{code:02X?}");
             None
         }
     }
@@ -91,12 +98,14 @@ fn of_two_bytes() {
 /// these endings.
 #[test]
 fn of_two_bytes_and_an_ff() {
-    const ENDINGS: [&[u8]; 7] = [
+    const ENDINGS: [&[u8]; 9] = [
         &[0xFF],
         &[0xFF, 0x00],
         &[0xFF, 0x01],
         &[0xFF, 0x7F],
         &[0xFF, 0x80],
+        &[0xFF, 0x8F],
+        &[0xFF, 0x90],
         &[0xFF, 0xFF],
         &[0xFF, 0x00, 0x00],
     ];

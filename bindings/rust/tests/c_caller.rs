@@ -10,6 +10,7 @@ P1: AC 10 S=2
 P7: A8 10 S=2
 learned: 04 at context 0
 last FF: 15 6E FF 00 S=12
+marker: refused 15
 ";
 
 const HEADER: &str = include_str!("../../../include/siftpebble.h");
@@ -102,6 +103,20 @@ fn the_header_has_the_numbers() {
         let there = |line: &str| line.trim().trim_end_matches(',') == wanted;
         assert!(HEADER.lines().any(there), "{wanted}");
     }
+}
+
+/// The header lists the numbers in the order in which they are tested.
+#[test]
+fn the_header_has_the_order() {
+    let lines = HEADER.lines().map(str::trim);
+    let entries = lines.filter(|line| line.starts_with("SIFTPEBBLE_"));
+    let number = |entry: &str| {
+        let number = entry.split_once(" = ")?.1.trim_end_matches(',');
+        number.parse().ok()
+    };
+    let numbers: Vec<u64> = entries.filter_map(number).collect();
+    assert_eq!(numbers, [0, 12, 1, 6, 3, 2, 7, 11, 4, 5, 8, 9, 15, 10]);
+    assert_eq!(numbers.len(), 1 + siftpebble::Refusal::ALL.len());
 }
 
 /// The crate's limits by their names.

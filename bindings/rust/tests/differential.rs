@@ -53,7 +53,7 @@ impl std::ops::AddAssign for Rare {
 const KINDS: [(&str, &[usize]); 7] = [
     ("open", &[0, 12, 1, 6, 3, 4, 5]),
     ("write", &[0, 12, 1, 6, 2, 7, 8, 9]),
-    ("read", &[0, 12, 1, 6, 2, 7, 9, 10]),
+    ("read", &[0, 12, 1, 6, 2, 7, 9, 15, 10]),
     ("close", &[0, 12, 1, 2]),
     ("abandon", &[0, 12, 1, 2]),
     ("drop", &[0, 12, 1, 3, 11]),
@@ -72,13 +72,13 @@ fn kind(act: &Act) -> usize {
     }
 }
 
-/// The numbers that a call can answer: 0, and those of the refusals.
-const NUMBERS: usize = 1 + siftpebble::Refusal::ALL.len();
+/// One more than the greatest number that a call can answer.
+const NUMBERS: usize = 1 + siftpebble::Refusal::Marker as usize;
 
 /// What was reached.
 #[derive(Default)]
 struct Report {
-    /// For each kind of call the accepted ones, then the refused by number.
+    /// For each kind of call how often it answered each number.
     answers: [[u64; NUMBERS]; KINDS.len()],
     ff_bytes: u64,
     rare: Rare,
@@ -104,7 +104,10 @@ impl Report {
     fn lines(&self) -> Vec<(String, u64)> {
         let all = |number: usize| self.answers.iter().map(|kind| kind[number]).sum();
         let mut lines = vec![("accepted calls".to_string(), all(0))];
-        lines.extend((1..NUMBERS).map(|number| (format!("refusal {number}"), all(number))));
+        for refusal in siftpebble::Refusal::ALL {
+            let number = refusal.number();
+            lines.push((format!("refusal {number}"), all(number as usize)));
+        }
         lines.push(("FF bytes in codes".into(), self.ff_bytes));
         let Rare {
             stuff_carries,
@@ -322,6 +325,35 @@ fn last_ffs(seed: u64, times: u64, report: &mut Report) {
     }
 }
 
+/// Codes with an FF and a byte about 90 put in or behind them: read into room
+/// enough, and into a byte less.
+fn markers(seed: u64, times: u64, report: &mut Report) {
+    let mut random = Random::new(seed);
+    for _ in 0..5000 * times {
+        let (width, rows) = (random.between(1, 60), random.between(1, 6));
+        let state = sample::state(&mut random, width);
+        let pels = sample::band(&mut random, &state, width, rows);
+        let desk = one_page(width, state);
+        let good = code_of(&desk, &pels);
+        let desk = to_be_read(desk);
+        let behind = |more: &[u8]| [&good[..], more].concat();
+        let mut codes = vec![
+            behind(&[0x00]),
+            behind(&[0xFF]),
+            behind(&[0xFF, 0x8F]),
+            behind(&[0xFF, 0x90]),
+        ];
+        codes.extend([0; 4].map(|_| sample::with_ff(&mut random, &good)));
+        for code in codes {
+            for room in [pels.len() - 1, pels.len()] {
+                let (rows, lent) = (rows as u64, random.bytes(room));
+                let code = code.clone();
+                call_from(&desk, Act::Read { rows, code, lent }, report);
+            }
+        }
+    }
+}
+
 /// A call on any bytes, as the lawful desk that they are or as none. It is
 /// chosen to make sense on the desk that the bytes were made of.
 fn call_on(bytes: &[u8], like: &Desk, run: &mut Run, report: &mut Report) {
@@ -377,11 +409,12 @@ fn misfits(seed: u64, times: u64, report: &mut Report) {
 type Part = (&'static str, u64, fn(u64, u64, &mut Report));
 
 /// The longest come first, so that the cores end at about one time.
-const PARTS: [Part; 7] = [
+const PARTS: [Part; 8] = [
     ("runs of calls", 0, runs_of_calls),
     ("calls on any lawful desk", 1, calls_on_any_desk),
     ("white runs", 5, white_runs),
     ("stray bits", 3, stray_bits),
+    ("markers", 7, markers),
     ("last FF", 6, last_ffs),
     ("large bands", 2, large_bands),
     ("misfits", 4, misfits),

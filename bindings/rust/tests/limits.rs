@@ -72,9 +72,15 @@ fn widths_and_rows() {
 fn codes() {
     let mut desk = Desk::new();
     desk.open_read(KEY, 1).expect("an empty desk");
-    let code = vec![0; MAX_CODE + 1];
+    let mut code = vec![0; MAX_CODE + 1];
     let longest = desk.read(KEY, 1, &code[..MAX_CODE], &mut [0]);
     assert_eq!(longest, Err(Refusal::Damaged));
+    let longer = desk.read(KEY, 1, &code, &mut [0]);
+    assert_eq!(longer, Err(Refusal::BadSize));
+    // a marker in the last two bytes
+    code[MAX_CODE - 2..MAX_CODE].copy_from_slice(&[0xFF, 0x90]);
+    let longest = desk.read(KEY, 1, &code[..MAX_CODE], &mut [0]);
+    assert_eq!(longest, Err(Refusal::Marker));
     let longer = desk.read(KEY, 1, &code, &mut [0]);
     assert_eq!(longer, Err(Refusal::BadSize));
 }

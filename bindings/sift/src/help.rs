@@ -69,6 +69,10 @@ with the page's name.
 
 A page with a damaged band is not written, nor is any page after it, since it needs the table
 learned from that page. Pages before it are whole, and are written. The status is then 1.
+
+Where a byte of 90 or more stands just after an FF in a band's code, sift says \"not a code of
+ours: marker FF xx at byte n\": it never writes that, so this is rather a wrong file than a cut
+one. The FF is byte n, counted from 0, of the code of the band that is named.
 ";
 
 pub const SHOW_TAKES: &[Takes] = &[("--bands", false), ("--quiet", false)];
@@ -82,7 +86,8 @@ bytes of their rows and of their codes, S, and what the codes save beside the ro
   --bands      lists every band too
   --quiet      shows no progress on the terminal
 
-The status is 0 only if every page came back as it was packed.
+The status is 0 only if every page came back as it was packed. A marker in a band's code is named
+as unpack names it.
 ";
 
 pub const LOOK_TAKES: &[Takes] = &[("--quiet", false)];

@@ -7,7 +7,7 @@ use crate::failure::Failure;
 use crate::frame::Record;
 use crate::input::Input;
 use crate::progress::Progress;
-use siftpebble::{front, Desk, Refusal, MAX_BAND_BYTES};
+use siftpebble::{first_marker, front, Desk, Refusal, MAX_BAND_BYTES};
 
 /// A packed file and its bytes.
 pub struct Packed<'a> {
@@ -116,7 +116,10 @@ impl<'a> Packed<'a> {
                     rows.extend_from_slice(front(&buffer, band.length));
                     shifts.push(band.shifts);
                 }
-                Err(refusal) => return Err(refused_band(place, index + 1, bands, refusal)),
+                Err(refusal) => {
+                    let why = said_of(refusal, code);
+                    return Err(refused_band(place, index + 1, bands, &why));
+                }
             }
         }
         Ok((rows, shifts))
@@ -133,10 +136,22 @@ impl<'a> Packed<'a> {
     }
 }
 
-/// What is said of a refused band, and of those after it.
-fn refused_band(place: &str, band: usize, bands: usize, refusal: Refusal) -> Vec<String> {
+/// What is said of a refused code. Its marker is shown, so that a wrong file
+/// can be told from a cut one.
+fn said_of(refusal: Refusal, code: &[u8]) -> String {
+    match (refusal, first_marker(code)) {
+        (Refusal::Marker, Some(at)) => {
+            let byte = code[at + 1];
+            format!("not a code of ours: marker FF {byte:02X} at byte {at}")
+        }
+        _ => refusal.to_string(),
+    }
+}
+
+/// What is said of a band that was refused for this, and of those after it.
+fn refused_band(place: &str, band: usize, bands: usize, why: &str) -> Vec<String> {
+    let mut lines = vec![format!("{place}, band {band}: {why}")];
     let why = format!("not read, since band {band} was refused");
-    let mut lines = vec![format!("{place}, band {band}: {refusal}")];
     match bands - band {
         0 => (),
         1 => lines.push(format!("{place}, band {bands}: {why}")),

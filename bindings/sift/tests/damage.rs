@@ -91,8 +91,9 @@ fn every_flipped_bit() {
         let ran = unpack(&dir, &file);
         check(&ran, &fronts);
         let by_desk = ran.stderr.contains(": the code is damaged\n");
+        let by_marker = ran.stderr.contains(": not a code of ours: marker FF ");
         let by_sum = ran.stderr.contains(": the rows are not those");
-        in_codes += usize::from(by_desk || by_sum);
+        in_codes += usize::from(by_desk || by_marker || by_sum);
     }
     // those in the frame were refused as such, and all others by reading
     let codes = model.bands.iter().flatten().map(|band| band.1.len());
@@ -188,9 +189,9 @@ fn a_damaged_band_is_named() {
     let (model, sheets) = small();
     let (start, lengths) = codes_of(&model, 1);
     let mut file = model.file.clone();
-    // after FF comes at most 8F, so FF FF is in no code
-    let at = start + lengths[0];
-    file[at..at + lengths[1]].fill(0xFF);
+    // no code ends in FF
+    let end = start + lengths[0] + lengths[1];
+    file[end - 1] = 0xFF;
     std::fs::write(dir.join("f"), &file).expect("a file");
     let lines = [
         "sift: f: page 2 (b.pbm), band 2: the code is damaged",
@@ -208,10 +209,95 @@ fn a_damaged_band_is_named() {
     assert!(!shown.text().contains("b.pbm"));
 
     // three bands: the first one refused
-    file[start..start + lengths[0]].fill(0xFF);
+    file[start + lengths[0] - 1] = 0xFF;
     let ran = unpack(&dir, &file);
     let line = "page 2 (b.pbm), bands 2 to 3: not read, since band 1 was refused";
     assert!(ran.stderr.contains(line), "{}", ran.stderr);
+}
+
+/// A file that the program packed, with a marker in the code of a band: the
+/// band, the marker and its place are named by every job.
+#[test]
+fn a_marker_is_named() {
+    let dir = directory("marker");
+    let (model, sheets) = small();
+    let names = ["a.pbm", "b.pbm", "c.pbm"];
+    for (name, sheet) in names.iter().zip(&sheets) {
+        std::fs::write(dir.join(name), sheet.p4()).expect("a file");
+    }
+    let options = ["--school", "2", "--class", "5", "--rows", "4", "-o", "-"];
+    let words = [&["pack"], &names[..], &options].concat();
+    let packed = sift(&dir, &words, b"").fine().stdout;
+    assert_eq!(packed, model.file);
+    let (start, lengths) = codes_of(&model, 1);
+    for at in 0..lengths[1] - 1 {
+        let mut file = packed.clone();
+        let place = start + lengths[0] + at;
+        file[place..place + 2].copy_from_slice(&[0xFF, 0x9A]);
+        let page = "sift: standard input: page 2 (b.pbm), band";
+        let lines = [
+            &format!("{page} 2: not a code of ours: marker FF 9A at byte {at}"),
+            &format!("{page} 3: not read, since band 2 was refused"),
+            "sift: standard input: page 3 (c.pbm): not read: \
+             it needs the table learned from page 2",
+        ];
+        let ran = unpack(&dir, &file).refused(1, &lines);
+        assert_eq!(ran.stdout, sheets[0].p4());
+        sift(&dir, &["show", "-"], &file).refused(1, &lines);
+        sift(&dir, &["look", "-"], &file).refused(1, &lines);
+    }
+}
+
+/// Codes in the place of that of a row of 36 pels, and what is said of them.
+const CODES: [(&[u8], &str); 9] = [
+    // cut, changed, and with something behind it
+    (&[0x58, 0xDE, 0xFF, 0x8F, 0x1A], "the code is damaged"),
+    (&[0x58, 0xDE, 0xFF], "the code is damaged"),
+    (&[0x58, 0xDE, 0xFF, 0x8F, 0x1A, 0x91], "the code is damaged"),
+    (
+        &[0x58, 0xDE, 0xFF, 0x8F, 0x1A, 0x90, 0x00],
+        "the code is damaged",
+    ),
+    // markers: in the place of 8F, at the end, behind it, and alone
+    (
+        &[0x58, 0xDE, 0xFF, 0x90, 0x1A, 0x90],
+        "not a code of ours: marker FF 90 at byte 2",
+    ),
+    (
+        &[0x58, 0xDE, 0xFF, 0x8F, 0xFF, 0xA0],
+        "not a code of ours: marker FF A0 at byte 4",
+    ),
+    (
+        &[0x58, 0xDE, 0xFF, 0x8F, 0x1A, 0x90, 0xFF, 0x90],
+        "not a code of ours: marker FF 90 at byte 6",
+    ),
+    (
+        &[0xFF, 0xD8, 0xFF, 0xE0],
+        "not a code of ours: marker FF D8 at byte 0",
+    ),
+    (
+        &[0x00, 0xFF, 0xFF],
+        "not a code of ours: marker FF FF at byte 1",
+    ),
+];
+
+/// A file of one page of 36 pels, with this code.
+fn one_row(code: &[u8]) -> Vec<u8> {
+    let sum = crc32(&[0xBB, 0x98, 0xEE, 0x66, 0x60]);
+    let record = record(36, 1, b"a", &[code.len() as u16], sum);
+    [&header(64, 1, 1, 1)[..], &record, code, b"END\n"].concat()
+}
+
+#[test]
+fn a_marker_is_told_from_other_damage() {
+    let dir = directory("told");
+    let good = [0x58, 0xDE, 0xFF, 0x8F, 0x1A, 0x90];
+    sift(&dir, &["show", "-"], &one_row(&good)).fine();
+    for (code, said) in CODES {
+        let line = format!("sift: standard input: page 1 (a), band 1: {said}");
+        let ran = unpack(&dir, &one_row(code)).refused(1, &[&line]);
+        assert!(ran.stdout.is_empty());
+    }
 }
 
 #[test]
