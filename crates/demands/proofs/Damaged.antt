@@ -17,14 +17,14 @@ use Rattle.unique.specs.BandOfCode.{bandOfCode}
 use Rattle.unique.proofs.OneReader.{right-found}
 use Rattle.desk.specs.declared.Ask.{Ask}
 use Rattle.desk.specs.Desk.{Page, Desk, Outcome}
-use Rattle.desk.specs.Refusals.{Row, row, refusal}
+use Rattle.desk.specs.Refusals.{Row, row, refusal, damage, isDamage}
 use Rattle.desk.specs.Calls.{reads}
 use Rattle.desk.specs.Standing.{pageOf, stand}
 use Rattle.desk.specs.Tests.{foundIn, tests}
 use Rattle.desk.specs.Allowed.{Allowed}
 use Rattle.desk.proofs.Passed.{numbered}
 use Rattle.demands.proofs.Demand1.{answers}
-use Rattle.demands.specs.Damaged.{isDamage, damage, others, otherwise, Unwritten}
+use Rattle.demands.specs.Damaged.{others, otherwise, Unwritten}
 
 -- the other tests never say "damaged"
 others-other : (rs : List Row) → isDamage (refusal (others rs)) ≡ false
@@ -64,8 +64,9 @@ two-parts (r ∷ rs) ts h =
 abbrev lastTwo : Bool → Bool → ℕ
 lastTwo m x = cond m 15 (cond x 10 0)
 
+-- where they say "damaged", after others that do not
 says : (n : ℕ) (m x : Bool) → isDamage n ≡ false → isDamage (lastly n (lastTwo m x)) ≡ true → (n ≡ 0)
-    × (lastly n (lastTwo m x) ≡ cond m 15 10)
+    × (lastly n (lastTwo m x) ≡ damage m)
     × (m ≡ false → x ≡ true)
 says zero true x h e = (refl, refl, λ z. no-way z)
 says zero false true h e = (refl, refl, λ z. refl)
@@ -86,6 +87,7 @@ module _ (d : Desk) (ask : Ask) (code out : List ℕ) where
         ∙ two-parts (others (tests bandOfCode (reads ask code out) (stand d (ask .key))))
         (row 15 (marked code) ∷ row 10 (not (given found)) ∷ []) refl
 
+    -- with a marker, or where nothing was found
     unwritten : (m : Bool) → marked code ≡ m → (m ≡ false → not (given found) ≡ true) → Unwritten d ask code out
     unfolding foundIn
     unwritten true e h = marked-damaged (p .width) (ask .rows) (p .table .entries) (p .last) code e
@@ -98,14 +100,14 @@ module _ (d : Desk) (ask : Ask) (code out : List ℕ) where
     -- told 15 where there is a marker, 10 where there is none
     pub damaged : isDamage (r .answer .number) ≡ true → (otherwise d ask code out ≡ 0)
         × Unwritten d ask code out
-        × (r .answer .number ≡ damage code)
+        × (r .answer .number ≡ damage (marked code))
     damaged e =
         let t = says (otherwise d ask code out) (marked code) (not (given found)) (others-other _)
         (sym (ap isDamage number-is) ∙ e) in
         (t .0, unwritten (marked code) refl (t .2), number-is ∙ t .1)
 
     -- a read that passes its other tests is told damaged where no band of that size would have been written so
-    pub only-then : otherwise d ask code out ≡ 0 → Unwritten d ask code out → r .answer .number ≡ damage code
+    pub only-then : otherwise d ask code out ≡ 0 → Unwritten d ask code out → r .answer .number ≡ damage (marked code)
     unfolding foundIn
     only-then e u =
         let f : found ≡ none
@@ -119,4 +121,4 @@ module _ (d : Desk) (ask : Ask) (code out : List ℕ) where
     pub marker-told : otherwise d ask code out ≡ 0 → marked code ≡ true → r .answer .number ≡ 15
     marker-told e m =
         only-then e (marked-damaged (p .width) (ask .rows) (p .table .entries) (p .last) code m)
-        ∙ ap (λ (b : Bool). cond b 15 10) m
+        ∙ ap damage m

@@ -102,6 +102,7 @@ module _ (d : Desk) (ask : Ask) (pels out : List ℕ) (r : Outcome) (after : Lis
   code-is : code d ask pels out r after a z p f ≡ bandOf p (ask .rows) pels .code
   code-is = ap₂ front (wrote .length) (wrote .code) ∙ front-again (bandOf p (ask .rows) pels .code) out
 
+  -- what was written has no marker
   unmarked : marked (code d ask pels out r after a z p f) ≡ false
   unfolding bandOf
   unmarked = ap marked code-is ∙ code-unmarked (p .width) (ask .rows) (p .table .entries) (p .last) pels

@@ -1,27 +1,17 @@
--- Demand 2 of a read: "damaged" is 10 or 15; the other tests; what a code is that no band was written as. Assumes
+-- Demand 2 of a read: the tests but those of "damaged", and what a code is that no band was written as. Assumes
 -- nothing.
-use mathlib.Core.Bool.{Bool, cond, _||_}
+use mathlib.Core.Bool.{cond}
 use mathlib.Core.Option.{none}
 use mathlib.Core.List.{List, [], _∷_}
 use Prim.Native.Nat.{ℕ}
-use lib.Dec.{eqb}
 use Rattle.band.specs.Band.{Right}
-use Rattle.marker.specs.Marker.{marked}
 use Rattle.unique.specs.BandOfCode.{bandOfCode}
 use Rattle.desk.specs.declared.Ask.{Ask}
 use Rattle.desk.specs.Desk.{Page, Desk}
-use Rattle.desk.specs.Refusals.{Row, refusal}
+use Rattle.desk.specs.Refusals.{Row, refusal, isDamage}
 use Rattle.desk.specs.Calls.{reads}
 use Rattle.desk.specs.Standing.{pageOf, stand}
 use Rattle.desk.specs.Tests.{tests}
-
--- the numbers that say "damaged"
-abbrev pub isDamage : ℕ → Bool
-isDamage n = eqb n 15 || eqb n 10
-
--- the number of a damaged code: 15 where there is a marker, 10 where there is none
-abbrev pub damage : List ℕ → ℕ
-damage code = cond (marked code) 15 10
 
 -- the tests that do not say "damaged"
 unfoldable pub others : List Row → List Row

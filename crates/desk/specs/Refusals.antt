@@ -34,9 +34,17 @@ unfoldable pub inOrder : List Row → List ℕ → Bool
 inOrder [] ns = true
 inOrder (r ∷ rs) ns = ltb 0 (length (from (r .number) ns)) && inOrder rs (from (r .number) ns)
 
--- the numbers that set all of the lent output to zero: no room, a marker, damaged
+-- the number that says "damaged": 15 where there is a marker in the code, 10 where there is none (request E4)
+abbrev pub damage : Bool → ℕ
+damage m = cond m 15 10
+
+-- the numbers that say "damaged"
+abbrev pub isDamage : ℕ → Bool
+isDamage n = eqb n 15 || eqb n 10
+
+-- the numbers that set all of the lent output to zero: "no room" and "damaged"
 abbrev pub zeroing : ℕ → Bool
-zeroing n = eqb n 9 || eqb n 15 || eqb n 10
+zeroing n = eqb n 9 || isDamage n
 
 -- a refusal leaves the lent output unchanged, or sets all of it to zero
 unfoldable pub lentAfter : ℕ → List ℕ → List ℕ

@@ -1,6 +1,6 @@
 -- No band is written with a marker in its code, so that a code with a marker is damaged. Assumes nothing.
 use mathlib.Core.Path.{_≡_, refl, sym, ap, _∙_}
-use Prim.Native.Nat.{ℕ, _≤_}
+use Prim.Native.Nat.{ℕ}
 use native.Mathlib.Omega.{arith}
 use mathlib.Core.Bool.{Bool, true, false, _&&_, _||_}
 use mathlib.Core.Option.{some, none}
@@ -14,7 +14,7 @@ use Rattle.band.proofs.EveryBand.{code-lawful}
 use Rattle.marker.specs.Marker.{marked}
 
 -- where a byte after an FF is at most 8F there is no marker
-pub lawful-unmarked : (b : ℕ) (code : List ℕ) → LawfulBytes b code → marked code ≡ false
+lawful-unmarked : (b : ℕ) (code : List ℕ) → LawfulBytes b code → marked code ≡ false
 unfolding marked
 lawful-unmarked b [] h = refl
 lawful-unmarked b (a ∷ []) h = refl
@@ -30,7 +30,7 @@ module _ (width rows : ℕ) (table last : List ℕ) where
   pub code-unmarked : (band : List ℕ) → marked (written width rows table last band .code) ≡ false
   code-unmarked band = lawful-unmarked 0 _ (code-lawful width rows table last band)
 
-  -- in which a band was found has none
+  -- a code in which a band was found has none
   pub found-unmarked : (code band : List ℕ) → Right width rows table last code (some band) → marked code ≡ false
   found-unmarked code band r = sym (ap marked (r .1)) ∙ code-unmarked band
 

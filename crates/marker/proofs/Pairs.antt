@@ -1,8 +1,7 @@
 -- The pairs of a code, one after another. Assumes nothing.
 use mathlib.Core.Path.{_≡_, refl, sym, ap, _∙_}
-use Prim.Native.Nat.{ℕ, zero, suc, _+_, _-_, _≤_, _<_}
+use Prim.Native.Nat.{ℕ, suc, _+_, _-_, _≤_, _<_}
 use native.Mathlib.Omega.{arith}
-use native.Mathlib.Numerals.{add-one}
 use mathlib.Core.Bool.{Bool, true, false, _&&_, _||_}
 use mathlib.Core.List.{List, [], _∷_}
 use lib.Dec.{eqb, leb}
@@ -11,7 +10,7 @@ use lib.Seq.{drop-cons}
 use Rattle.marker.specs.Marker.{marked}
 
 -- the bytes j and i are a marker, where they stand one after the other
-abbrev pub pairAt : List ℕ → ℕ → ℕ → Bool
+abbrev pairAt : List ℕ → ℕ → ℕ → Bool
 pairAt code j i = eqb (getD code j 0) 0xFF && leb 0x90 (getD code i 0)
 
 -- a pair, and those after it
@@ -24,6 +23,7 @@ first code j h =
     ap marked a ∙ ap (λ (l : List ℕ). marked (getD code j 0 ∷ l)) b
     ∙ ap (λ (l : List ℕ). pairAt code j (suc j) || marked l) (sym b)
 
+-- fewer than two bytes are no pair
 few : (code : List ℕ) → length code ≤ 1 → marked code ≡ false
 unfolding marked
 few [] h = refl

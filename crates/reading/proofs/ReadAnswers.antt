@@ -25,7 +25,7 @@ use Rattle.desk.specs.declared.Ask.{Ask}
 use Rattle.desk.specs.Desk.{Page, Desk}
 use Rattle.desk.specs.Places.{noPage}
 use Rattle.desk.specs.Lawful.{within}
-use Rattle.desk.specs.Refusals.{Row, row, refusal, zeroing}
+use Rattle.desk.specs.Refusals.{Row, row, refusal, damage, zeroing}
 use Rattle.desk.specs.Calls.{reads}
 use Rattle.desk.specs.Standing.{stand, pageOf, openPage}
 use Rattle.desk.specs.Tests.{unlawful, unknown, bandOf, foundIn, tests}
@@ -47,16 +47,10 @@ onPage ask code out p =
     row 9 (ltb (length out) (ask .rows * rowBytes (p .width))) ∷ row 15 (marked code)
     ∷ row 10 (not (given (foundIn bandOfCode p (ask .rows) code))) ∷ []
 
--- the number of a code as which no band would have been written
-abbrev pub faultOf : List ℕ → ℕ
-faultOf code = cond (marked code) 15 10
-
-pub fault-is : (code : List ℕ) → (faultOf code ≢ 0) × (zeroing (faultOf code) ≡ true)
-fault-is code = go (marked code)
-  where
-    go : (m : Bool) → (_≢_ {A = ℕ} (cond m 15 10) 0) × (zeroing (cond m 15 10) ≡ true)
-    go true = (λ z. omega (arith, z), refl)
-    go false = (λ z. omega (arith, z), refl)
+-- "damaged" is a refusal, and sets the lent output to zero
+pub damage-is : (m : Bool) → (damage m ≢ 0) × (zeroing (damage m) ≡ true)
+damage-is true = (λ z. omega (arith, z), refl)
+damage-is false = (λ z. omega (arith, z), refl)
 
 -- both sizes that are tested first are right
 abbrev pub sizes : Ask → List ℕ → Bool
@@ -166,7 +160,7 @@ module _ (d : Desk) (ask : Ask) (code out : List ℕ) (i : ℕ) (t : StoodTo d (
         go none = refl
         go (some band) = rw (sym room-is ∙ room)
 
-    pub read-damaged : r .good ≡ false → number bandOfCode d (reads ask code out) ≡ faultOf code
+    pub read-damaged : r .good ≡ false → number bandOfCode d (reads ask code out) ≡ damage (marked code)
     unfolding refusal
     read-damaged e = told ∙ ap (λ (g : Bool). refusal (row 15 (marked code) ∷ row 10 (not g) ∷ [])) (sym good-is ∙ e)
 

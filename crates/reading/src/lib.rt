@@ -1,9 +1,10 @@
-// The call that reads a band, and what is the matter with a code that is no band's. The book goes by value; the arrays are lent in place.
+// The call that reads a band, and what is told of a code that is no band's. The book goes by value; the arrays are lent
+// in place.
 ghost use mathlib.Core.Path.{_≡_};
-ghost use mathlib.Core.Bool.{cond};
 ghost use Rattle.marker.specs.Marker.{marked};
 ghost use Rattle.parts.specs.Parts.{partsOf, Sized};
 ghost use Rattle.desk.specs.Calls.{reads};
+ghost use Rattle.desk.specs.Refusals.{damage};
 ghost use Rattle.parts.specs.Replies.{Serves};
 use desk::Ask;
 use desk::Direction;
@@ -18,9 +19,9 @@ use parts::Book;
 use parts::Reply;
 use refusals::Stands;
 
-// A code as which no band would have been written: it has a marker, or it is damaged otherwise.
+// The number of a code as which no band would have been written: it has a marker, or it is damaged otherwise.
 fn fault(code: &[u8]) -> u64
-    ensures { λ r. ⌜ r ≡ cond (marked (now (code .entry))) 15 10 ⌝ }
+    ensures { λ r. ⌜ r ≡ damage (marked (now (code .entry))) ⌝ }
 {
     if marker::marked(code) {
         return 15;

@@ -1,10 +1,9 @@
 -- The pairs that were passed are no markers; one that is decides. Assumes nothing.
 use mathlib.Core.Path.{refl}
-use Prim.Native.Nat.{_-_, _≤_}
+use Prim.Native.Nat.{_-_}
 use native.Mathlib.Omega.{arith}
 use lib.ListN.{length}
 use Rattle.marker.proofs.Pairs.{Marks, marks-found, marks-next, marks-end}
-use borrow.Author.Needs.{needs}
 use Rattle.marker.proofs.marked.Statement.{statement}
 use Rattle.marker.proofs.marked.Tie as tie
 
@@ -18,8 +17,9 @@ abbrev μ-loop : tie.MeasureT-loop
 abbrev turn : tie.After-shared-slice-known2 Inv-loop μ-loop → tie.In-loop Inv-loop μ-loop
 turn c = c .before .before
 
-some-passed : (c : tie.In-loop Inv-loop μ-loop) → 1 ≤ c .before .loop .i
-some-passed c = c .before .loop .inv .some
+-- there is a byte before the one that the turn is at
+sub-if1 : tie.Need-sub-if1 Inv-loop μ-loop
+sub-if1 c = let h = c .before .loop .inv .some in omega arith
 
 returns : tie.Need-returns Inv-loop μ-loop
 returns c = marks-found (turn (c .before) .before .loop .inv) (omega arith) (c .if1 .taken)
@@ -33,6 +33,5 @@ returns-2 c = marks-end (c .before .loop .inv) (omega arith)
 pub marked-spec : {M : Type 1} → statement M
 marked-spec =
     tie.close
-    (tie.spec Inv-loop μ-loop (λ c. record { some = omega arith; rest = refl })
-    (λ c. let h = some-passed c in omega arith) (λ c. omega arith) (λ c. omega arith) returns (λ c. omega arith) (λ c. omega arith)
-    loop-again returns-2)
+    (tie.spec Inv-loop μ-loop (λ c. record { some = omega arith; rest = refl }) sub-if1 (λ c. omega arith)
+    (λ c. omega arith) returns (λ c. omega arith) (λ c. omega arith) loop-again returns-2)

@@ -12,6 +12,8 @@ use Rattle.parts.specs.Lines.{noPageLine}
 use Rattle.parts.proofs.Puts.{page-as}
 use Rattle.desk.specs.Lawful.{within}
 use Rattle.desk.proofs.OpenPages.{LawfulOpen, within-both}
+use Rattle.marker.specs.Marker.{marked}
+use Rattle.desk.specs.Refusals.{damage}
 use Rattle.desk.specs.Calls.{reads}
 use Rattle.desk.specs.Standing.{stand, pageOf}
 use Rattle.desk.specs.Tests.{bandOf}
@@ -22,7 +24,7 @@ use lib.Dec.{leb}
 use Rattle.limits.specs.Limits.{maxCode}
 use Rattle.ground.proofs.Bools.{both}
 use Rattle.reader.specs.declared.Read.{Read}
-use Rattle.reading.proofs.ReadAnswers.{sizes, faultOf, fault-is, read-number, read-room, read-full}
+use Rattle.reading.proofs.ReadAnswers.{sizes, damage-is, read-number, read-room, read-full}
 use Rattle.reading.proofs.ReadAnswers.{read-damaged, damaged-out}
 use Rattle.reading.proofs.ReadAnswers.{band, read-end, read-gave, read-lent, read-effect}
 use borrow.Author.Needs.{needs}
@@ -171,8 +173,8 @@ returns-3 c =
     let r = b .read-band in
     let o = not-false (r .result .room) (y .if1 .left) in
     let e = not-true (r .result .good) (x .if2 .taken) in
-    let n = fault-is (a .code .now) in
-    refuses p (whole (sought f)) (reads (a .ask) (a .code .now) (a .out .now)) (faultOf (a .code .now))
+    let n = damage-is (marked (a .code .now)) in
+    refuses p (whole (sought f)) (reads (a .ask) (a .code .now) (a .out .now)) (damage (marked (a .code .now)))
     (c .refused2 .result) _
     (read-damaged (deskOf p) (a .ask) (a .code .now) (a .out .now) i t (pageIn p i) m (r .result) _ (r .ensures) o e)
     (n .0) (c .refused2 .ensures ∙ ap (λ (k : ℕ). refusedBy k (a .book)) (c .before .fault .ensures))
@@ -217,5 +219,5 @@ read-spec =
     (tie.spec (λ c κs. search needs) (λ c κs. search needs) (λ c κs. search needs) (λ c. search needs)
     (λ c. search needs) (λ c κs. search needs) returns (λ c. let h = slot-within c in omega arith) slot-within
     mul-entries entries-within mul-last last-within read-band-requires (λ c κs. search needs) (λ c. search needs)
-    returns-2 (λ c κs. search needs) (λ c κs. search needs) (λ c. search needs) returns-3 put-page-requires (λ c κs. search needs)
-    (λ c. search needs) returns-4)
+    returns-2 (λ c κs. search needs) (λ c κs. search needs) (λ c. search needs) returns-3 put-page-requires
+    (λ c κs. search needs) (λ c. search needs) returns-4)
