@@ -16,6 +16,9 @@ pub type Row = [u8; MAX_WIDTH / 8];
 pub struct Band {
     pub length: usize,
     pub shifts: u64,
+    /// The pels with at least one shift (request E11), even where the table
+    /// byte stayed as it was.
+    pub revisits: u64,
 }
 
 /// What a band starts from, and leaves for the next one.
@@ -88,6 +91,7 @@ pub fn write(
         made: 0,
     };
     let mut writer = Writer::new(fill, watch);
+    let mut revisits = 0;
     let State { mut table, last } = state.clone();
     let mut above = &last[..row_bytes(width)];
     for row in pels.chunks_exact(row_bytes(width)) {
@@ -96,7 +100,8 @@ pub fn write(
             let view = into_view(above, i);
             for bit in bits(width, i) {
                 let pel = byte >> bit & 1;
-                writer.code(&mut table[context], pel)?;
+                let revisited = writer.code(&mut table[context], pel)?;
+                revisits += u64::from(revisited);
                 context = next_context(context, pel, view >> bit & 1);
             }
         }
@@ -108,6 +113,7 @@ pub fn write(
     Ok(Band {
         length: fill.made,
         shifts: u64::from(shifts),
+        revisits,
     })
 }
 
@@ -116,6 +122,7 @@ pub fn write(
 /// looked for: a code with one is damaged like any other.
 pub fn read(state: &mut State, width: usize, code: &[u8], out: &mut [u8]) -> Result<Band, Refusal> {
     let mut reader = Reader::new(code);
+    let mut revisits = 0;
     let State {
         mut table,
         mut last,
@@ -127,7 +134,8 @@ pub fn read(state: &mut State, width: usize, code: &[u8], out: &mut [u8]) -> Res
             let view = into_view(above, i);
             *byte = 0;
             for bit in bits(width, i) {
-                let pel = reader.pel(&mut table[context])?;
+                let (pel, revisited) = reader.pel(&mut table[context])?;
+                revisits += u64::from(revisited);
                 *byte |= pel << bit;
                 context = next_context(context, pel, view >> bit & 1);
             }
@@ -139,5 +147,6 @@ pub fn read(state: &mut State, width: usize, code: &[u8], out: &mut [u8]) -> Res
     Ok(Band {
         length: out.len(),
         shifts,
+        revisits,
     })
 }

@@ -32,12 +32,14 @@ pub enum Act {
     },
 }
 
-/// What every call answers: its number (0 when accepted), a length and S.
+/// What every call answers: its number (0 when accepted), a length, S, and the
+/// pels revisited.
 #[derive(Clone, Copy, Debug, PartialEq, Eq)]
 pub struct Answer {
     pub number: u64,
     pub length: u64,
     pub shifts: u64,
+    pub revisits: u64,
 }
 
 impl Answer {
@@ -71,6 +73,7 @@ impl From<Result<Band, Refusal>> for Answer {
             number,
             length: band.length as u64,
             shifts: band.shifts,
+            revisits: band.revisits,
         }
     }
 }
@@ -83,7 +86,11 @@ impl From<Result<(), Refusal>> for Answer {
 
 impl From<Result<usize, Refusal>> for Answer {
     fn from(result: Result<usize, Refusal>) -> Self {
-        result.map(|length| Band { length, shifts: 0 }).into()
+        let alone = |length| Band {
+            length,
+            ..Band::default()
+        };
+        result.map(alone).into()
     }
 }
 

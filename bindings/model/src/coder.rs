@@ -85,22 +85,23 @@ impl<S: Sink, W: Watch> Writer<S, W> {
         }
     }
 
-    /// Codes one pel in the context with this table byte.
+    /// Codes one pel in the context with this table byte. Answers whether the
+    /// estimate was revisited: whether there was a shift (request E11).
     #[inline]
-    pub fn code(&mut self, entry: &mut u8, pel: u8) -> Result<(), Refusal> {
+    pub fn code(&mut self, entry: &mut u8, pel: u8) -> Result<bool, Refusal> {
         let estimate = ESTIMATES[*entry as usize];
         if pel == *entry & 1 {
             self.lower += estimate.size;
             self.width -= estimate.size;
             if self.width >= ONE {
-                return Ok(());
+                return Ok(false);
             }
             *entry = estimate.after_expected;
         } else {
             self.width = estimate.size;
             *entry = estimate.after_unexpected;
         }
-        self.renormalise().map(|_| ())
+        Ok(self.renormalise()? > 0)
     }
 
     /// Doubles the interval up to 1.0 and answers how often.
@@ -209,9 +210,10 @@ impl<'a> Reader<'a> {
         }
     }
 
-    /// Finds one pel in the context with this table byte.
+    /// Finds one pel in the context with this table byte. Answers it, and
+    /// whether the estimate was revisited: whether there was a shift.
     #[inline]
-    pub fn pel(&mut self, entry: &mut u8) -> Result<u8, Refusal> {
+    pub fn pel(&mut self, entry: &mut u8) -> Result<(u8, bool), Refusal> {
         let estimate = ESTIMATES[*entry as usize];
         let size = u64::from(estimate.size) << AHEAD;
         let sense = *entry & 1;
@@ -220,7 +222,7 @@ impl<'a> Reader<'a> {
             self.writer.lower += estimate.size;
             self.writer.width -= estimate.size;
             if self.writer.width >= ONE {
-                return Ok(sense);
+                return Ok((sense, false));
             }
             *entry = estimate.after_expected;
             sense
@@ -236,7 +238,7 @@ impl<'a> Reader<'a> {
         if self.rest >> AHEAD >= u64::from(self.writer.width) {
             return Err(Refusal::Damaged); // a number above the interval
         }
-        Ok(pel)
+        Ok((pel, doublings > 0))
     }
 
     /// Answers the shifts, if the whole code is what the writer in step made.

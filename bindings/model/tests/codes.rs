@@ -3,8 +3,8 @@
 
 mod common;
 
-use common::{all_bands, assert_bounds, new_page, write};
-use siftpebble_model::band::{self, row_bytes, State};
+use common::{all_bands, assert_bounds, context, new_page, write, write_band};
+use siftpebble_model::band::{self, row_bytes, Band, State};
 use siftpebble_model::random::Random;
 use siftpebble_model::sample;
 use siftpebble_model::table::{after_expected, after_unexpected, Table, SIZES};
@@ -68,21 +68,6 @@ fn make_byte(code: &mut Vec<u8>, lower: &Digits) {
     code.push(new.iter().fold(carry, |byte, digit| byte << 1 | digit));
 }
 
-/// The context by its definition.
-fn context(above: &[u8], row: &[u8], width: usize, x: usize) -> usize {
-    let pel = |line: &[u8], shift: isize| match x.checked_add_signed(shift) {
-        Some(at) if at < width => usize::from(line[at / 8] >> (7 - at % 8) & 1),
-        _ => 0,
-    };
-    pel(row, -1)
-        + 2 * pel(row, -2)
-        + 4 * pel(above, 2)
-        + 8 * pel(above, 1)
-        + 16 * pel(above, 0)
-        + 32 * pel(above, -1)
-        + 64 * pel(above, -2)
-}
-
 /// Document 01's writer of a band, in exact numbers.
 struct Defined {
     table: Table,
@@ -91,6 +76,7 @@ struct Defined {
     code: Vec<u8>,
     /// The shifts at which the next byte goes out.
     due: usize,
+    revisits: u64,
 }
 
 impl Defined {
@@ -112,6 +98,7 @@ impl Defined {
             };
             self.table[context] = next(entry);
         }
+        let before = self.shifts();
         while self.interval < 0x1000 {
             self.interval *= 2;
             self.lower.0.push(0);
@@ -121,6 +108,7 @@ impl Defined {
                 self.due += number(&self.code).0.len() - covered;
             }
         }
+        self.revisits += u64::from(self.shifts() > before);
     }
 
     fn shifts(&self) -> usize {
@@ -128,14 +116,16 @@ impl Defined {
     }
 }
 
-/// Document 01's code and S of a band, with the end that request E2 gives it.
-fn defined(from: &State, width: usize, pels: &[u8]) -> (Vec<u8>, u64) {
+/// Document 01's code and answer of a band, with the end that request E2 gives
+/// the code, and with request E11's count.
+fn defined(from: &State, width: usize, pels: &[u8]) -> (Vec<u8>, Band) {
     let mut writer = Defined {
         table: from.table,
         interval: 0x1000,
         lower: Digits(vec![0; 12]),
         code: Vec::new(),
         due: 12,
+        revisits: 0,
     };
     let mut above = &from.last[..row_bytes(width)];
     for row in pels.chunks(row_bytes(width)) {
@@ -151,8 +141,12 @@ fn defined(from: &State, width: usize, pels: &[u8]) -> (Vec<u8>, u64) {
     if writer.code.ends_with(&[0xFF]) {
         writer.code.push(0x00);
     }
-    let shifts = writer.shifts() as u64;
-    (writer.code, shifts)
+    let band = Band {
+        length: writer.code.len(),
+        shifts: writer.shifts() as u64,
+        revisits: writer.revisits,
+    };
+    (writer.code, band)
 }
 
 const SMALL: [(usize, usize); 15] = [
@@ -183,8 +177,8 @@ fn small_bands_have_the_defined_codes() {
             sample::state(&mut random, width),
         ] {
             for pels in all_bands(width, rows) {
-                let (code, shifts, _) = write(&from, width, &pels);
-                assert_eq!((code, shifts), defined(&from, width, &pels));
+                let (code, band, _) = write_band(&from, width, &pels);
+                assert_eq!((code, band), defined(&from, width, &pels));
             }
         }
     }
@@ -197,8 +191,8 @@ fn random_bands_have_the_defined_codes() {
         let (width, rows) = (random.between(1, 40), random.between(1, 8));
         let from = sample::state(&mut random, width);
         let pels = sample::band(&mut random, &from, width, rows);
-        let (code, shifts, _) = write(&from, width, &pels);
-        assert_eq!((code, shifts), defined(&from, width, &pels));
+        let (code, band, _) = write_band(&from, width, &pels);
+        assert_eq!((code, band), defined(&from, width, &pels));
     }
 }
 
@@ -207,8 +201,8 @@ fn bands_with_a_last_ff_have_the_defined_codes() {
     let mut random = Random::new(9);
     for _ in 0..500 {
         let (from, width, pels) = sample::last_ff(&mut random);
-        let (code, shifts, _) = write(&from, width, &pels);
-        assert_eq!((code, shifts), defined(&from, width, &pels));
+        let (code, band, _) = write_band(&from, width, &pels);
+        assert_eq!((code, band), defined(&from, width, &pels));
     }
 }
 
@@ -268,13 +262,17 @@ fn bands_are_read_back() {
         let (width, rows) = (sample::width(&mut random), random.between(1, 9));
         let from = sample::state(&mut random, width);
         let pels = sample::band(&mut random, &from, width, rows);
-        let (code, shifts, after) = write(&from, width, &pels);
+        let (code, written, after) = write_band(&from, width, &pels);
         let mut state = from.clone();
         let mut out = vec![0xA5; pels.len()];
         let band = band::read(&mut state, width, &code, &mut out).expect("a band's code");
-        assert_eq!((out, band.shifts), (pels, shifts));
+        let expected = Band {
+            length: pels.len(),
+            ..written
+        };
+        assert_eq!((out, band), (pels, expected));
         assert_eq!(state, after);
-        assert_bounds(&code, shifts);
+        assert_bounds(&code, written.shifts);
         carries += code.windows(2).filter(|pair| is_stuff_carry(pair)).count();
     }
     assert!(carries > 1000, "{carries} carries in stuff bits");

@@ -40,6 +40,7 @@ fn read(code: &[u8]) -> Result<Band, Refusal> {
 const GOOD: Result<Band, Refusal> = Ok(Band {
     length: 5,
     shifts: 34,
+    revisits: 33,
 });
 const MARKER: Result<Band, Refusal> = Err(Refusal::Marker);
 const DAMAGED: Result<Band, Refusal> = Err(Refusal::Damaged);

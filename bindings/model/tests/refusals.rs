@@ -71,6 +71,7 @@ fn refuses(desk: Desk, key: Key, act: Act, number: u64) {
         number,
         length: 0,
         shifts: 0,
+        revisits: 0,
     };
     assert_eq!(outcome.answer, refusal, "{call:?}");
     assert_eq!(after, desk);

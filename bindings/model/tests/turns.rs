@@ -134,6 +134,19 @@ impl Fault for FindsByClass {
     }
 }
 
+/// The pels revisited depend on how many pages are open.
+struct CountsPages;
+
+impl Fault for CountsPages {
+    fn serve(desk: &mut Desk, call: &Call) -> Outcome {
+        let mut outcome = desk.serve(call);
+        if outcome.answer.revisits > 0 {
+            outcome.answer.revisits += desk.pages.iter().flatten().count() as u64;
+        }
+        outcome
+    }
+}
+
 /// How many of two hundred runs show that demand 3 does not hold.
 fn caught<F: Fault>() -> usize {
     let caught = AtomicUsize::new(0);
@@ -152,6 +165,7 @@ fn faults_are_seen() {
         caught::<DropsOpenPages>(),
         caught::<LearnsFromAbandoned>(),
         caught::<FindsByClass>(),
+        caught::<CountsPages>(),
     ];
     println!("{caught:?}");
     assert!(caught.iter().all(|&runs| runs > 20));

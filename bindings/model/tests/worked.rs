@@ -154,6 +154,7 @@ fn white_page() {
     let expected = Band {
         length: 10,
         shifts: 61,
+        revisits: 60, // only the first pel has two shifts
     };
     assert_eq!(band, Ok(expected));
     assert_eq!(
@@ -263,6 +264,7 @@ fn a_last_ff_into_four_bytes_and_three() {
     let band = Band {
         length: 4,
         shifts: 12,
+        revisits: 12,
     };
     assert_eq!(answer, Ok(band));
     assert_eq!(four, [0x15, 0x6E, 0xFF, 0x00]);

@@ -1,3 +1,4 @@
 pub mod One
 pub mod Worked
 pub mod EveryBand
+pub mod Revisits

@@ -7,7 +7,7 @@ use mathlib.Core.List.{List, [], _++_}
 use lib.ListN.{getD, length, replicate}
 use lib.Dec.{ltb, leb}
 use Rattle.limits.specs.Limits.{maxCode, lastBytes}
-use Rattle.coder.specs.Writing.{Writer, Model, bandCode, bandCount, bandModel}
+use Rattle.coder.specs.Writing.{Writer, Model, bandCode, bandCount, bandRevisits, bandModel}
 use Rattle.coder.specs.Page.{Scheme, Page, page}
 use Rattle.estimate.specs.Estimate.{rowOf, next}
 use Rattle.interval.specs.Interval.{decision}
@@ -43,10 +43,12 @@ pageAt width table last = record { table = table; above = pelsTo last width; thi
 unfoldable pub white : List ℕ
 white = replicate lastBytes 0
 
--- ---- a band as written: its code, S, the table after it, the last row after it (in the room that a page has for it)
+-- ---- a band as written: its code, S, how many of its pels were revisited, the table after it, the last row after it
+-- (in the room that a page has for it)
 pub record Written : Type 0 where
   pub code : List ℕ
   pub shifts : ℕ
+  pub revisits : ℕ
   pub table : List ℕ
   pub last : List ℕ
 
@@ -63,6 +65,7 @@ written width rows table last band =
     record {
       code = bandCode (qPage width) qWriter m ps;
       shifts = bandCount (qPage width) qWriter m ps;
+      revisits = bandRevisits (qPage width) qWriter m ps;
       table = bandModel (qPage width) qWriter m ps .table;
       last = lastRow width rows band;
     }

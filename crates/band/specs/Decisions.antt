@@ -2,10 +2,9 @@
 use Prim.Native.Nat.{ℕ, _-_}
 use mathlib.Core.List.{List, [], _∷_}
 use lib.Dec.{eqb}
-use Rattle.coder.specs.Writing.{Stage, step}
+use Rattle.coder.specs.Writing.{Stage, step, opening}
 use Rattle.coder.specs.Page.{size, sense}
 use Rattle.interval.specs.Interval.{Decision, decision}
-use Rattle.octets.specs.Octets.{start}
 use Rattle.template.specs.Pels.{bandTo}
 use Rattle.band.specs.Band.{qScheme, qWriter, qPage, pageAt}
 
@@ -19,7 +18,7 @@ module _ (width : ℕ) where
 module _ (width rows : ℕ) (table last band : List ℕ) where
   -- where the band starts: the page's table and last row, and a new code
   abbrev pub opened : Stage (qPage width) qWriter
-  opened = record { model = pageAt width table last; writer = start }
+  opened = opening (qPage width) qWriter (pageAt width table last)
 
   -- the band's decisions, from the page's table and last row
   abbrev pub decided : List Decision

@@ -1,4 +1,5 @@
-// The limits of document 01, on both sides of each: what is asked, then the answer's number, length and S.
+// The limits of document 01, on both sides of each: what is asked, then the answer's number, length, S and revisited
+// pels.
 ghost use Rattle.parts.specs.Parts.{Sized};
 use limits::CONTEXTS;
 use limits::PAGES;
@@ -36,16 +37,16 @@ fn new_page<'a>(
     opened.book
 }
 
-// White rows, one byte each.
-fn rows_line(name: &[u8], count: u64) {
+// White rows, so many bytes in all.
+fn rows_line(name: &[u8], width: u64, count: u64, bytes: usize) {
     let mut working = [[0u8; CONTEXTS]; PAGES];
     let mut rows = [[0u8; ROW]; PAGES];
     let mut learned = [[0u8; CONTEXTS]; PLACES];
-    let book = new_page(1, &mut working, &mut rows, &mut learned);
-    let pels = [0u8; 65];
+    let book = new_page(width, &mut working, &mut rows, &mut learned);
+    let pels = [0u8; 64 * ROW];
     let mut out = [0u8; 64];
     let ask = lines::band_of(lines::key_of(1, 1), count);
-    let band = store::front_of(&pels, count as usize);
+    let band = store::front_of(&pels, bytes);
     let wrote = writing::write(
         book,
         &mut working,
@@ -117,8 +118,10 @@ fn buffer_line(name: &[u8], width: u64, row: &[u8], out: &mut [u8]) {
 fn main() {
     width_line(b"Width 2,048", 2048);
     width_line(b"Width 2,049", 2049);
-    rows_line(b"64 rows", 64);
-    rows_line(b"65 rows", 65);
+    rows_line(b"64 rows", 1, 64, 64);
+    rows_line(b"65 rows", 1, 65, 65);
+    rows_line(b"5 white pels", 5, 1, 1);
+    rows_line(b"64 white rows of 2,048 pels", 2048, 64, 64 * ROW);
     one_more(b"Fourth open page", 3, false);
     one_more(b"Fifth open page", 4, false);
     one_more(b"Eighth class", 7, true);

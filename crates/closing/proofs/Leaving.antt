@@ -76,7 +76,7 @@ module _ (p : Parts) (w : Whole p) (k : Key) (i : ℕ) (f : pageFound (deskOf p)
       → place ≡ findBy (placeSought (Used k)) (p .book .places) 0
       → PlacePut (p .book) (p .learned) place (learnedPlace k (record { entries = getD (p .working) i [] }))
       between learned
-      → x ≡ doneBy 0 0 next → Serves p (closes k) (x .answer) (partsOf (x .book) working rows learned) []
+      → x ≡ doneBy 0 0 0 next → Serves p (closes k) (x .answer) (partsOf (x .book) working rows learned) []
   unfolding effect changed placesAfter stand learnedPlace
   close-done x place l e g q a =
       accepts p (closes k) x next working rows learned [] (page-whole (place-whole w q) cleared) e a
@@ -98,7 +98,7 @@ module _ (p : Parts) (w : Whole p) (k : Key) (i : ℕ) (f : pageFound (deskOf p)
   -- ---- abandon: a class with a table keeps it; a place that was only reserved is free
   pub abandon-done : (x : Reply) (place : Found) → number bandOfCode (deskOf p) (abandons k) ≡ 0
       → place ≡ reservedFound k (p .book .places)
-      → PlacePut (p .book) (p .learned) place freePlace between learned → x ≡ doneBy 0 0 next
+      → PlacePut (p .book) (p .learned) place freePlace between learned → x ≡ doneBy 0 0 0 next
       → Serves p (abandons k) (x .answer) (partsOf (x .book) working rows learned) []
   unfolding effect changed placesAfter reservedFound
   abandon-done x place e g q a =

@@ -46,7 +46,7 @@ pub fn close<'a>(
     let table = Table { entries: entries };
     let taught = parts::put_place(book, learned, place, line, table);
     let next = parts::clear_page(taught, working, rows, i);
-    parts::done(0, 0, next)
+    parts::done(0, 0, 0, next)
 }
 
 // The place that the key's page only reserves.
@@ -81,5 +81,5 @@ pub fn abandon<'a>(
     let places = book.places;
     let freed = parts::clear_place(book, learned, reserved_place(places, key));
     let next = parts::clear_page(freed, working, rows, i);
-    parts::done(0, 0, next)
+    parts::done(0, 0, 0, next)
 }

@@ -1,7 +1,7 @@
 -- Any binary arithmetic coder whose sizes are given from outside, and over it any model that adapts: how a band is
 -- written. Assumes nothing.
-use Prim.Native.Nat.{ℕ}
-use mathlib.Core.Bool.{Bool}
+use Prim.Native.Nat.{ℕ, suc}
+use mathlib.Core.Bool.{Bool, cond}
 use mathlib.Core.List.{List, [], _∷_}
 use lib.Dec.{eqb}
 
@@ -23,10 +23,15 @@ pub record Model : Type 1 where
   pub sense : State → ℕ
   pub move : State → ℕ → Bool → State
 
--- where a band stands: what is learned, and the writer
+-- where a band stands: what is learned, the writer, and how many pels were revisited so far
 pub record Stage (A : Model) (W : Writer) : Type 0 where
   pub model : A .State
   pub writer : W .State
+  pub revisits : ℕ
+
+-- A pel is revisited, that is, its context's estimate is, when there was at least one shift (request E11).
+abbrev pub counted : Bool → ℕ → ℕ
+counted shifted n = cond shifted (suc n) n
 
 module _ (A : Model) (W : Writer) where
   -- one pel is put in
@@ -34,7 +39,12 @@ module _ (A : Model) (W : Writer) where
   step s p =
       let q : ℕ = A .size (s .model) in
       let e : Bool = eqb p (A .sense (s .model)) in
-      record { model = A .move (s .model) p (W .moves q e (s .writer)); writer = W .put q e (s .writer) }
+      let shifted : Bool = W .moves q e (s .writer) in
+      record {
+        model = A .move (s .model) p shifted;
+        writer = W .put q e (s .writer);
+        revisits = counted shifted (s .revisits);
+      }
 
   -- where a band stands after these pels
   unfoldable pub after : Stage A W → List ℕ → Stage A W
@@ -43,7 +53,7 @@ module _ (A : Model) (W : Writer) where
 
   -- each band starts a new code
   abbrev pub opening : A .State → Stage A W
-  opening m = record { model = m; writer = W .start }
+  opening m = record { model = m; writer = W .start; revisits = 0 }
 
   -- the code of a band of these pels
   abbrev pub bandCode : A .State → List ℕ → List ℕ
@@ -52,6 +62,10 @@ module _ (A : Model) (W : Writer) where
   -- the S of a band of these pels: its shifts, counted
   abbrev pub bandCount : A .State → List ℕ → ℕ
   bandCount m ps = W .count (after (opening m) ps .writer)
+
+  -- how many of these pels were revisited
+  abbrev pub bandRevisits : A .State → List ℕ → ℕ
+  bandRevisits m ps = after (opening m) ps .revisits
 
   -- what is learned after a band of these pels
   abbrev pub bandModel : A .State → List ℕ → A .State

@@ -83,8 +83,7 @@ module _ (d : Desk) (c : Call) (r : Outcome) (after : List ℕ) (p : Allowed d c
   refused h = go (number (p .reader .finds) d c) (p .outcome) (p .lent)
     where
       o : Outcome
-      o = done (effectOn (p .reader .finds) d c .length) (effectOn (p .reader .finds) d c .shifts)
-          (changed d (keyOf c) (effectOn (p .reader .finds) d c .page) (effectOn (p .reader .finds) d c .learned))
+      o = done (effectOn (p .reader .finds) d c) (changed d (keyOf c) (effectOn (p .reader .finds) d c .page) (effectOn (p .reader .finds) d c .learned))
 
       go : (n : ℕ) → r ≡ unless n d o → after ≡ unlessLent n (lentTo c) (effectOn (p .reader .finds) d c .lent)
           → Refused d c r after
@@ -93,6 +92,7 @@ module _ (d : Desk) (c : Call) (r : Outcome) (after : List ℕ) (p : Allowed d c
           record {
             length = ap (λ (o : Outcome). o .answer .length) e;
             shifts = ap (λ (o : Outcome). o .answer .shifts) e;
+            revisits = ap (λ (o : Outcome). o .answer .revisits) e;
             desk = ap (λ (o : Outcome). o .desk) e;
             lent = l ∙ ap (λ (m : ℕ). lentAfter m (lentTo c)) (sym (ap (λ (o : Outcome). o .answer .number) e));
           }
@@ -115,7 +115,7 @@ module _ (d : Desk) (c : Call) (r : Outcome) (after : List ℕ) (p : Allowed d c
 
   -- a call that no test refuses answers and does what its effect says
   pub accepted : (e : Effect) → number (p .reader .finds) d c ≡ 0 → effectOn (p .reader .finds) d c ≡ e
-      → (r ≡ done (e .length) (e .shifts) (changed d (keyOf c) (e .page) (e .learned))) × (after ≡ e .lent)
+      → (r ≡ done e (changed d (keyOf c) (e .page) (e .learned))) × (after ≡ e .lent)
   unfolding outcome lent
   accepted e z i = (
     p .outcome ∙ ap (λ (n : ℕ). unless n d (on (effectOn (p .reader .finds) d c))) z ∙ ap on i,
@@ -124,4 +124,4 @@ module _ (d : Desk) (c : Call) (r : Outcome) (after : List ℕ) (p : Allowed d c
   )
     where
       on : Effect → Outcome
-      on f = done (f .length) (f .shifts) (changed d (keyOf c) (f .page) (f .learned))
+      on f = done f (changed d (keyOf c) (f .page) (f .learned))

@@ -93,6 +93,8 @@ module _ (d : Desk) (ask : Ask) (pels out : List ℕ) (r : Outcome) (after : Lis
             ∙ ap (λ (q : Page). length (bandOf q (ask .rows) pels .code)) page-is;
         shifts = ap (λ (o : Outcome). o .answer .shifts) o ∙ ap (λ (q : Page). bandOf q (ask .rows) pels .shifts)
             page-is;
+        revisits = ap (λ (o : Outcome). o .answer .revisits) o
+            ∙ ap (λ (q : Page). bandOf q (ask .rows) pels .revisits) page-is;
         code = l ∙ ap (λ (q : Page). inFront (bandOf q (ask .rows) pels .code) out) page-is;
         page = ap (λ (o : Outcome). openPage (o .desk) (ask .key)) (a .outcome) ∙ call-leaves (a .reader) d law
             (writes ask pels out) zero-number .0
@@ -177,6 +179,8 @@ module _ (d : Desk) (ask : Ask) (pels out : List ℕ) (r : Outcome) (after : Lis
           length = k;
           shifts = ap (λ (x : Outcome). x .answer .shifts) o ∙ ap (λ (v : Written). v .shifts) (sym same-band)
               ∙ sym (wrote .shifts);
+          revisits = ap (λ (x : Outcome). x .answer .revisits) o ∙ ap (λ (v : Written). v .revisits) (sym same-band)
+              ∙ sym (wrote .revisits);
           lent = l;
           again = ap₂ front k l ∙ front-again pels out′;
           state = (

@@ -58,9 +58,9 @@ read k code n = reads (record { key = k; rows = 1 }) code (replicate n 9)
 abbrev look : Key → ℕ → Call
 look k n = looks k (replicate n 9)
 
--- a call, and what it answers: its number, length and S, and the lent buffer after it
+-- a call, and what it answers: its number, length, S and the pels revisited, and the lent buffer after it
 abbrev Turn : Type 0
-Turn = Call × ℕ × ℕ × ℕ × List ℕ
+Turn = Call × ℕ × ℕ × ℕ × ℕ × List ℕ
 
 -- the 24 calls. Class a writes P1 and P7 on its first page; b writes P2 between them, closes first, and its table is
 -- dropped. c has no room for its band and is abandoned; then it reads P1's code, after one that is damaged. Meanwhile
@@ -68,35 +68,35 @@ Turn = Call × ℕ × ℕ × ℕ × List ℕ
 -- gone on. b's second page is never closed.
 abbrev turns : List Turn
 turns =
-    (openTo way.Write a, 0, 0, 0, [])
-    ∷ (openTo way.Write b, 0, 0, 0, [])
-    ∷ (write a 0x00 3, 0, 2, 2, 0xAC ∷ 0x10 ∷ 9 ∷ [])
-    ∷ (openTo way.Write c, 0, 0, 0, [])
-    ∷ (write b 0x80 2, 0, 2, 1, 0x00 ∷ 0x00 ∷ [])
-    ∷ (look a 1, 11, 0, 0, 9 ∷ [])
-    ∷ (write c 0x00 1, 9, 0, 0, 0 ∷ [])
-    ∷ (closes b, 0, 0, 0, [])
-    ∷ (openTo way.Write a, 3, 0, 0, [])
-    ∷ (write a 0x00 2, 0, 2, 2, 0xA8 ∷ 0x10 ∷ [])
-    ∷ (drops a, 3, 0, 0, [])
-    ∷ (abandons c, 0, 0, 0, [])
-    ∷ (drops b, 0, 0, 0, [])
-    ∷ (closes a, 0, 0, 0, [])
-    ∷ (openTo way.Read c, 0, 0, 0, [])
-    ∷ (openTo way.Write a, 0, 0, 0, [])
-    ∷ (write a 0x00 2, 0, 2, 2, 0xA0 ∷ 0x10 ∷ [])
-    ∷ (read c (0xAC ∷ 0x11 ∷ []) 2, 10, 0, 0, 0 ∷ 0 ∷ [])
-    ∷ (read c (0xAC ∷ 0x10 ∷ []) 2, 0, 1, 2, 0x00 ∷ 9 ∷ [])
-    ∷ (look a 129, 0, 128, 0, 4 ∷ replicate 127 0 ++ (9 ∷ []))
-    ∷ (openTo way.Write b, 0, 0, 0, [])
-    ∷ (closes a, 0, 0, 0, [])
-    ∷ (write b 0x80 2, 0, 2, 1, 0x00 ∷ 0x00 ∷ [])
-    ∷ (closes c, 0, 0, 0, [])
+    (openTo way.Write a, 0, 0, 0, 0, [])
+    ∷ (openTo way.Write b, 0, 0, 0, 0, [])
+    ∷ (write a 0x00 3, 0, 2, 2, 1, 0xAC ∷ 0x10 ∷ 9 ∷ [])
+    ∷ (openTo way.Write c, 0, 0, 0, 0, [])
+    ∷ (write b 0x80 2, 0, 2, 1, 1, 0x00 ∷ 0x00 ∷ [])
+    ∷ (look a 1, 11, 0, 0, 0, 9 ∷ [])
+    ∷ (write c 0x00 1, 9, 0, 0, 0, 0 ∷ [])
+    ∷ (closes b, 0, 0, 0, 0, [])
+    ∷ (openTo way.Write a, 3, 0, 0, 0, [])
+    ∷ (write a 0x00 2, 0, 2, 2, 1, 0xA8 ∷ 0x10 ∷ [])
+    ∷ (drops a, 3, 0, 0, 0, [])
+    ∷ (abandons c, 0, 0, 0, 0, [])
+    ∷ (drops b, 0, 0, 0, 0, [])
+    ∷ (closes a, 0, 0, 0, 0, [])
+    ∷ (openTo way.Read c, 0, 0, 0, 0, [])
+    ∷ (openTo way.Write a, 0, 0, 0, 0, [])
+    ∷ (write a 0x00 2, 0, 2, 2, 1, 0xA0 ∷ 0x10 ∷ [])
+    ∷ (read c (0xAC ∷ 0x11 ∷ []) 2, 10, 0, 0, 0, 0 ∷ 0 ∷ [])
+    ∷ (read c (0xAC ∷ 0x10 ∷ []) 2, 0, 1, 2, 1, 0x00 ∷ 9 ∷ [])
+    ∷ (look a 129, 0, 128, 0, 0, 4 ∷ replicate 127 0 ++ (9 ∷ []))
+    ∷ (openTo way.Write b, 0, 0, 0, 0, [])
+    ∷ (closes a, 0, 0, 0, 0, [])
+    ∷ (write b 0x80 2, 0, 2, 1, 1, 0x00 ∷ 0x00 ∷ [])
+    ∷ (closes c, 0, 0, 0, 0, [])
     ∷ []
 
 -- the n-th of them
 abbrev turn : ℕ → Turn
-turn n = getD turns (n - 1) (drops a, 0, 0, 0, [])
+turn n = getD turns (n - 1) (drops a, 0, 0, 0, 0, [])
 
 -- what is left, in the order in which it is served
 abbrev order : List Turn
@@ -112,6 +112,7 @@ seen (e ∷ es) = (
   e .output .answer .number,
   e .output .answer .length,
   e .output .answer .shifts,
+  e .output .answer .revisits,
   e .output .lent,
 ) ∷ seen es
 

@@ -16,9 +16,10 @@ unfoldable pub isIn : ℕ → List ℕ → Bool
 isIn n [] = false
 isIn n (m ∷ ms) = eqb n m || isIn n ms
 
--- what a refusal is: length 0, S = 0, the desk as it was, the lent output as its number says
+-- what a refusal is: length 0, S = 0, no pel revisited, the desk as it was, the lent output as its number says
 pub record Refused (d : Desk) (c : Call) (r : Outcome) (after : List ℕ) : Type 0 where
   pub length : r .answer .length ≡ 0
   pub shifts : r .answer .shifts ≡ 0
+  pub revisits : r .answer .revisits ≡ 0
   pub desk : r .desk ≡ d
   pub lent : after ≡ lentAfter (r .answer .number) (lentTo c)

@@ -30,7 +30,7 @@ module _ (d : Desk) (ask : Ask) (pels out : List ℕ) (r : Outcome) (after : Lis
     (z : r .answer .number ≡ 0)
     (p : Page) (f : openPage d (ask .key) ≡ some p) where
   -- what an accepted write gives: its sizes are lawful, the bytes of the Q-coder stand in the front of the buffer,
-  -- length and S are theirs, and the page goes on
+  -- length, S and the pels revisited are theirs, and the page goes on
   pub record Wrote : Type 0 where
     pub desk-lawful : lawful d ≡ true
     pub rows : within 1 (ask .rows) maxRows ≡ true
@@ -39,6 +39,7 @@ module _ (d : Desk) (ask : Ask) (pels out : List ℕ) (r : Outcome) (after : Lis
     pub short : length (bandOf p (ask .rows) pels .code) ≤ maxCode
     pub length : r .answer .length ≡ length (bandOf p (ask .rows) pels .code)
     pub shifts : r .answer .shifts ≡ bandOf p (ask .rows) pels .shifts
+    pub revisits : r .answer .revisits ≡ bandOf p (ask .rows) pels .revisits
     pub code : after ≡ inFront (bandOf p (ask .rows) pels .code) out
     pub page : openPage (r .desk) (ask .key) ≡ some (servedPage p (bandOf p (ask .rows) pels))
 
@@ -52,12 +53,13 @@ module _ (d : Desk) (ask : Ask) (pels out : List ℕ) (r : Outcome) (after : Lis
       (same : SameState p q) (law : lawful e ≡ true) (rows : ask .rows ≡ ask′ .rows) (way : q .state ≡ 2)
       (room : length pels ≤ length out′)
       (r′ : Outcome) (after′ : List ℕ) (b : Allowed e (reads ask′ code out′) r′ after′) where
-    -- what reading it back gives: the read is accepted and answers the rows' bytes and the same S, the pels are given
-    -- back, and both pages are again in the same state
+    -- what reading it back gives: the read is accepted and answers the rows' bytes, the same S and as many pels
+    -- revisited, the pels are given back, and both pages are again in the same state
     pub record ReadBack : Type 0 where
       pub accepted : r′ .answer .number ≡ 0
       pub length : r′ .answer .length ≡ length pels
       pub shifts : r′ .answer .shifts ≡ r .answer .shifts
+      pub revisits : r′ .answer .revisits ≡ r .answer .revisits
       pub lent : after′ ≡ inFront pels out′
       pub again : front (r′ .answer .length) after′ ≡ pels
       pub state : (p₁ q₁ : Page) × (openPage (r .desk) (ask .key) ≡ some p₁)

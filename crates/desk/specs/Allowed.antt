@@ -13,21 +13,21 @@ use Rattle.desk.specs.Tests.{tests}
 use Rattle.desk.specs.Effects.{Effect, effect}
 use Rattle.desk.specs.Changes.{changed}
 
--- A refusal answers its number, length 0 and S = 0.
+-- A refusal answers its number, length 0 and S = 0, and no pel revisited.
 abbrev pub refusedAs : ℕ → Answer
-refusedAs n = record { number = n; length = 0; shifts = 0 }
+refusedAs n = record { number = n; length = 0; shifts = 0; revisits = 0 }
 
 -- An accepted call answers 0 as its number.
-abbrev pub doneAs : ℕ → ℕ → Answer
-doneAs len s = record { number = 0; length = len; shifts = s }
+abbrev pub doneAs : Effect → Answer
+doneAs e = record { number = 0; length = e .length; shifts = e .shifts; revisits = e .revisits }
 
 -- A refusal changes nothing in the desk.
 abbrev pub refused : ℕ → Desk → Outcome
 refused n d = record { answer = refusedAs n; desk = d }
 
 -- an accepted call: its answer, and the desk after it
-abbrev pub done : ℕ → ℕ → Desk → Outcome
-done len s d = record { answer = doneAs len s; desk = d }
+abbrev pub done : Effect → Desk → Outcome
+done e d = record { answer = doneAs e; desk = d }
 
 -- refused by its number, or, where that is 0, done
 abbrev pub unless : ℕ → Desk → Outcome → Outcome
@@ -51,8 +51,7 @@ module _ (finds : Finder) (d : Desk) (c : Call) where
   -- the answer and the desk after it
   unfoldable pub outcome : Outcome
   outcome =
-      unless number d
-      (done (effectOn .length) (effectOn .shifts) (changed d (keyOf c) (effectOn .page) (effectOn .learned)))
+      unless number d (done effectOn (changed d (keyOf c) (effectOn .page) (effectOn .learned)))
 
   -- the lent buffer after it (empty where none is lent)
   unfoldable pub lent : List ℕ

@@ -28,18 +28,19 @@ afterwards o gone = none
 afterwards o (becomes a) = some a
 
 -- What an accepted call gives. Its length is n for a write, the bytes of all rows for a read, 128 for a look and 0 for
--- the others; its S is 0 except for a band; the lent buffer after it; what becomes of the page and of the learned
--- table.
+-- the others; its S is 0 except for a band, and so is the number of pels revisited; the lent buffer after it; what
+-- becomes of the page and of the learned table.
 pub record Effect : Type 0 where
   pub length : ℕ
   pub shifts : ℕ
+  pub revisits : ℕ
   pub lent : List ℕ
   pub page : Change Page
   pub learned : Change Table
 
--- a call that answers 0, 0 and is lent nothing
+-- a call that answers no length, no S and no pel revisited, and is lent nothing
 abbrev pub does : Change Page → Change Table → Effect
-does p t = record { length = 0; shifts = 0; lent = []; page = p; learned = t }
+does p t = record { length = 0; shifts = 0; revisits = 0; lent = []; page = p; learned = t }
 
 -- the fresh table
 abbrev pub freshTable : Table
@@ -55,12 +56,13 @@ unfoldable pub servedPage : Page → Written → Page
 servedPage p w =
     record { state = p .state; key = p .key; width = p .width; table = record { entries = w .table }; last = w .last }
 
--- a band: bytes in the front of the buffer, the rest kept; S; the page goes on
+-- a band: bytes in the front of the buffer, the rest kept; S, and the pels revisited; the page goes on
 abbrev pub serves : Page → Written → List ℕ → List ℕ → Effect
 serves p w bytes out =
     record {
       length = length bytes;
       shifts = w .shifts;
+      revisits = w .revisits;
       lent = inFront bytes out;
       page = becomes (servedPage p w);
       learned = stays;
@@ -94,6 +96,7 @@ module _ (finds : Finder) where
       record {
         length = contexts;
         shifts = 0;
+        revisits = 0;
         lent = inFront (orElse (s .learned) noTable .entries) out;
         page = stays;
         learned = stays;

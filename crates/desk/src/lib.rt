@@ -27,12 +27,13 @@ pub struct Ask {
     pub rows: u64,
 }
 
-// What every call answers.
+// What every call answers: its number, and length, S and the pels revisited.
 #[repr(C)]
 pub struct Answer {
     pub number: u64,
     pub length: u64,
     pub shifts: u64,
+    pub revisits: u64,
 }
 
 // A lookup answers a found slot or nothing.

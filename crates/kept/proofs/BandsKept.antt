@@ -9,7 +9,7 @@ use lib.Dec.{eqb, leb}
 use lib.ListN.{getD, set, length, drop, replicate, length-drop, List·getD-append}
 use lib.Seq.{drop-at, length-take-le}
 use borrow.Author.Tests.{leb-true, le-leb, eq-eqb}
-use Rattle.coder.specs.Writing.{Stage, step, after}
+use Rattle.coder.specs.Writing.{Stage, step, after, opening}
 use Rattle.coder.specs.Page.{Page, contextOf, entryAt, sense, taught, placed, move}
 use Rattle.estimate.specs.Estimate.{indexOf, next}
 use Rattle.estimate.proofs.LawfulEntries.{next-lawful}
@@ -69,7 +69,8 @@ pub written-low : (width rows : ℕ) (table last band : List ℕ) → lowIndexes
     → lowIndexes (written width rows table last band .table) ≡ true
 unfolding written
 written-low width rows table last band h =
-    after-lawful width (bandTo width band rows) (record { model = pageAt width table last; writer = qWriter .start }) h
+    after-lawful width (bandTo width band rows)
+    (opening (qPage width) qWriter (pageAt width table last)) h
 
 -- ---- the last row
 zero-all : (n : ℕ) → isZero (replicate n 0) ≡ true

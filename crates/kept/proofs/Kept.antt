@@ -163,7 +163,7 @@ module _ (R : Reader) (d : Desk) (h : lawful d ≡ true) (c : Call) where
   unfolding outcome
   call-keeps =
       by-number (Keeps k d) (number (R .finds) d c) d
-      (done (e .length) (e .shifts) (changed d k (e .page) (e .learned))) (keeps-same k d h)
+      (done e (changed d k (e .page) (e .learned))) (keeps-same k d h)
       (λ z. keeps-stored d (changed d k (e .page) (e .learned)) k _ s (call-stored z))
 
   -- every call keeps a lawful desk lawful

@@ -38,6 +38,8 @@ pub fn put_answer(a: Answer) {
     put_number(a.length);
     put_text(b", S ");
     put_number(a.shifts);
+    put_text(b", revisits ");
+    put_number(a.revisits);
 }
 
 pub fn key_of(school: u64, class: u64) -> Key {

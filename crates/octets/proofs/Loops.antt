@@ -6,6 +6,7 @@ use native.Mathlib.Nat.{sub-zero, suc-add, zero-add}
 use native.Mathlib.Omega.{arith}
 use mathlib.Core.List.{List, [], _∷_, _++_, append-assoc}
 use lib.Dec.{ltb, eqb}
+use mathlib.Core.Bool.{cond}
 use Rattle.ground.proofs.Tests.{by-cond, by-cond₂, if-eq, if-ne}
 use Rattle.interval.specs.Interval.{Decision, doublings}
 use Rattle.interval.proofs.Growing.{jumped, jumped-none, jumped-more}
@@ -150,3 +151,30 @@ shifts-count (suc n) w =
 pub pel-count : (d : Decision) (w : Registers) → pel d w .interval .count ≤ w .interval .count + 12
 pel-count d w = by-part (λ (v : Registers). shifts 12 v .interval .count ≤ w .interval .count + 12) d w
     (λ t. shifts-count 12 _) (λ t. shifts-count 12 _)
+
+-- a shift counts, and nothing takes it back
+shifts-keep : (n : ℕ) (w : Registers) → w .interval .count ≤ shifts n w .interval .count
+unfolding shifts
+shifts-keep zero w = omega arith
+shifts-keep (suc n) w =
+    by-cond (λ (v : Registers). w .interval .count ≤ v .interval .count) (ltb (w .interval .width) 4096)
+    (shifts n (due (double w))) w
+    (λ t. omega (arith, shifts-keep n (due (double w)), due-count (double w))) (λ t. omega arith)
+
+-- one more, where the width is below 1000 hex
+abbrev least : Registers → ℕ
+least w = cond (ltb (w .interval .width) 4096) (suc (w .interval .count)) (w .interval .count)
+
+shifts-least : (n : ℕ) (w : Registers) → least w ≤ shifts (suc n) w .interval .count
+unfolding shifts
+shifts-least n w =
+    by-cond₂ (λ (k : ℕ) (v : Registers). k ≤ v .interval .count) (ltb (w .interval .width) 4096)
+    (suc (w .interval .count)) (w .interval .count) (shifts n (due (double w))) w
+    (λ t. omega (arith, shifts-keep n (due (double w)), due-count (double w))) (λ t. omega arith)
+
+-- so a pel with a shift makes the count grow, and no pel makes it fall
+pub pel-counts : (d : Decision) (w : Registers)
+    → cond (ltb (part d w .interval .width) 4096) (suc (w .interval .count)) (w .interval .count)
+    ≤ pel d w .interval .count
+pel-counts d w = by-part (λ (v : Registers). cond (ltb (v .interval .width) 4096) (suc (w .interval .count))
+    (w .interval .count) ≤ shifts 12 v .interval .count) d w (λ t. shifts-least 11 _) (λ t. shifts-least 11 _)

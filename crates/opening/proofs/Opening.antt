@@ -31,7 +31,7 @@ use Rattle.desk.specs.Refusals.{row, refusal}
 use Rattle.desk.specs.Calls.{opens}
 use Rattle.desk.specs.Standing.{stand}
 use Rattle.desk.specs.Tests.{tests}
-use Rattle.desk.specs.Effects.{newPage, effect}
+use Rattle.desk.specs.Effects.{becomes, stays, does, freshTable, newPage, effect}
 use Rattle.desk.specs.Changes.{reservedPlace, setAt, pagesAfter, placesAfter, changed}
 use Rattle.desk.specs.Allowed.{done, number, Allowed}
 use Rattle.parts.specs.Replies.{doneBy, refusedBy, outcomeOf, Serves}
@@ -53,12 +53,13 @@ pub new-done : (p : Parts) (ask : Opening) (i : ℕ) (x : Reply) (place : Found)
     → table .entries ≡ fresh
     → PlacePut (p .book) (p .learned) place (reservedPlace (ask .key)) reserved learned
     → PagePut reserved (p .working) (p .rows) i (asPage (newLine ask) (table .entries) white) next working rows
-    → x ≡ doneBy 0 0 next
+    → x ≡ doneBy 0 0 0 next
     → outcomeOf (x .answer) (partsOf (x .book) working rows learned) ≡ openNew (deskOf p) ask i
 unfolding openNew newPage
 new-done p ask i x place reserved next working rows learned table f g t a b h =
     ap (λ (y : Reply). outcomeOf (y .answer) (partsOf (y .book) working rows learned)) h
-    ∙ ap₂ (λ (ps : List Page) (qs : List Place). done 0 0 (record { pages = ps; places = qs }))
+    ∙ ap₂ (λ (ps : List Page) (qs : List Place). done (does (becomes (newPage ask freshTable)) stays)
+    (record { pages = ps; places = qs }))
     (b .pages ∙ ap₂ (λ (ls : List PageLine) (es : List ℕ). set (pagesOf ls (p .working) (p .rows)) i
     (asPage (newLine ask) es white)) (a .pages) t)
     (ap (λ (ls : List PlaceLine). placesOf ls learned) (b .places) ∙ a .places
@@ -104,7 +105,7 @@ module _ (p : Parts) (ask : Opening) (n : ℕ) (first : n ≡ early (lawful (des
         pub open-taught : (w : Whole p) (j : ℕ) (x : Reply) (next : Book) (working rows : List (List ℕ))
             → tableFound d (ask .key) ≡ At j
             → PagePut (p .book) (p .working) (p .rows) i (asPage (newLine ask) (getD (p .learned) j []) white) next
-            working rows → x ≡ doneBy 0 0 next
+            working rows → x ≡ doneBy 0 0 0 next
             → Serves p (opens ask) (x .answer) (partsOf (x .book) working rows (p .learned)) []
         unfolding effect changed pagesAfter placesAfter stand newPage
         open-taught w j x next working rows t q a =

@@ -6,7 +6,7 @@ use Rattle.parts.specs.declared.PageLine.{PageLine}
 use Rattle.desk.specs.declared.Opening.{Opening}
 use Rattle.desk.specs.Desk.{Desk, Outcome}
 use Rattle.desk.specs.Places.{stateFor, freePlaceFound, isFound}
-use Rattle.desk.specs.Effects.{freshTable, newPage}
+use Rattle.desk.specs.Effects.{becomes, stays, does, freshTable, newPage}
 use Rattle.desk.specs.Changes.{reservedPlace, setAt}
 use Rattle.desk.specs.Allowed.{done, unless}
 
@@ -18,7 +18,7 @@ newLine ask = record { state = stateFor (ask .direction); key = ask .key; width 
 unfoldable pub openNew : Desk → Opening → ℕ → Outcome
 openNew d ask i =
     unless (cond (isFound (freePlaceFound d)) 0 5) d
-    (done 0 0 (record {
+    (done (does (becomes (newPage ask freshTable)) stays) (record {
       pages = set (d .pages) i (newPage ask freshTable);
       places = setAt (freePlaceFound d) (reservedPlace (ask .key)) (d .places);
     }))

@@ -69,7 +69,7 @@ pub fn open<'a>(
     let table = Table { entries: entries };
     let last = [0u8; ROW];
     let next = parts::put_page(book, working, rows, i, new_line(ask), table, last);
-    parts::done(0, 0, next)
+    parts::done(0, 0, 0, next)
 }
 
 // The open page of a class without a table reserves a place.
@@ -108,5 +108,5 @@ fn open_new<'a>(
         Table::fresh(),
         last,
     );
-    parts::done(0, 0, next)
+    parts::done(0, 0, 0, next)
 }

@@ -8,13 +8,13 @@ use Rattle.parts.specs.declared.Reply.{Reply}
 use Rattle.desk.specs.Desk.{Outcome}
 use Rattle.parts.specs.Parts.{deskOf, Whole}
 use Rattle.desk.specs.Calls.{Call}
-use Rattle.desk.specs.Allowed.{refusedAs, doneAs, Allowed}
+use Rattle.desk.specs.Allowed.{refusedAs, Allowed}
 
 abbrev pub refusedBy : ℕ → Book → Reply
 refusedBy n book = record { answer = refusedAs n; book = book }
 
-abbrev pub doneBy : ℕ → ℕ → Book → Reply
-doneBy len s book = record { answer = doneAs len s; book = book }
+abbrev pub doneBy : ℕ → ℕ → ℕ → Book → Reply
+doneBy len s n book = record { answer = record { number = 0; length = len; shifts = s; revisits = n }; book = book }
 
 -- the desk that a call leaves, with its answer
 abbrev pub outcomeOf : Answer → Parts → Outcome

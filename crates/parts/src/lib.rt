@@ -257,20 +257,22 @@ pub fn refused(n: u64, book: Book) -> Reply
             number: n,
             length: 0,
             shifts: 0,
+            revisits: 0,
         },
         book: book,
     }
 }
 
-// An accepted call: its length, S, and the book after it.
-pub fn done(len: u64, shifts: u64, book: Book) -> Reply
-    ensures { λ r. ⌜ r ≡ doneBy len shifts book ⌝ }
+// An accepted call: its length, S, the pels revisited, and the book after it.
+pub fn done(len: u64, shifts: u64, revisits: u64, book: Book) -> Reply
+    ensures { λ r. ⌜ r ≡ doneBy len shifts revisits book ⌝ }
 {
     Reply {
         answer: Answer {
             number: 0,
             length: len,
             shifts: shifts,
+            revisits: revisits,
         },
         book: book,
     }

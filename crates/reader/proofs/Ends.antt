@@ -24,7 +24,7 @@ use Rattle.unique.specs.QCoder.{qReader}
 use Rattle.reader.specs.ReadRow.{matches, reads}
 use Rattle.reader.proofs.ReadRow.{matches-append}
 use Rattle.reader.specs.Reads.{BandRead}
-use Rattle.reader.specs.Found.{rowsFit, readAnswer, readOut, BandFound}
+use Rattle.reader.specs.Found.{rowsFit, notRead, readAnswer, readOut, BandFound}
 use Rattle.reader.proofs.Verdict.{agreed, agrees}
 use Rattle.unique.proofs.BandPels.{reads-written, code-of-pels}
 
@@ -49,6 +49,10 @@ module _ (width rows : ℕ) (table : Table) (last given out₀ above : List ℕ)
   shifts-is : written width rows t₀ last (b .band) .shifts ≡ r .coder .interval .count
   unfolding written
   shifts-is = ap (λ (s : Stage (qPage width) qWriter). s .writer .interval .count) (b .stage)
+
+  revisits-is : written width rows t₀ last (b .band) .revisits ≡ r .revisits
+  unfolding written
+  revisits-is = ap (λ (s : Stage (qPage width) qWriter). s .revisits) (b .stage)
 
   table-is : written width rows t₀ last (b .band) .table ≡ r .table .entries
   unfolding written
@@ -83,6 +87,7 @@ module _ (width rows : ℕ) (table : Table) (last given out₀ above : List ℕ)
           good = true;
           length = rows * rowBytes width;
           shifts = r .coder .interval .count;
+          revisits = r .revisits;
           table = record { entries = r .table .entries };
           last = above;
         }) out
@@ -97,6 +102,7 @@ module _ (width rows : ℕ) (table : Table) (last given out₀ above : List ℕ)
                 good = true;
                 length = sym (b .isBand .size) i;
                 shifts = sym shifts-is i;
+                revisits = sym revisits-is i;
                 table = record { entries = sym table-is i };
                 last = sym (last-is some-rows) i;
               });
@@ -106,7 +112,7 @@ module _ (width rows : ℕ) (table : Table) (last given out₀ above : List ℕ)
     pub read-damaged : ((r .good && matches given (r .at) lasts) && eqb (n - 1) (length given)) ≡ false
         → (after : List ℕ) → after ≡ cleared out → length out ≡ length out₀
         → BandFound width rows table last given out₀
-        (record { room = true; good = false; length = 0; shifts = 0; table = table; last = last }) after
+        (notRead true table last) after
     unfolding readAnswer readOut cleared
     read-damaged h after a l =
         record {
@@ -125,7 +131,7 @@ module _ (width rows : ℕ) (table : Table) (last given out₀ above : List ℕ)
 pub read-nothing : (width rows : ℕ) (table : Table) (last given out₀ after : List ℕ) → rowsFit width rows out₀ ≡ false
     → after ≡ cleared out₀
     → BandFound width rows table last given out₀
-    (record { room = false; good = false; length = 0; shifts = 0; table = table; last = last }) after
+    (notRead false table last) after
 unfolding readAnswer readOut
 read-nothing width rows table last given out₀ after f a =
     record { found = none; right = λ k. absurd (apart (sym f ∙ k)); answer = rw f refl; lent = a }

@@ -1,6 +1,6 @@
 -- A row as the reader's loop meets it: after x pels it has read what the laws' reader reads, the writer beside it has
 -- written those pels, and each byte that is settled was compared with the code. Assumes nothing.
-use mathlib.Core.Path.{_≡_, refl, sym, ap, ap₂, _∙_, subst}
+use mathlib.Core.Path.{_≡_, refl, sym, ap, ap₂, _∙_, subst, subst₂}
 use Prim.Native.Nat.{ℕ, zero, suc, _+_, _-_, _*_, _/_, _%_, _^_, _≤_, _<_}
 use native.Mathlib.Nat.{add-suc, suc-add}
 use native.Mathlib.Omega.{arith}
@@ -10,8 +10,9 @@ use lib.ListN.{getD, set, length, take, replicate, length-append}
 use lib.Seq.{length-take-le, take-suc}
 use lib.Dec.{ltb, eqb}
 use Rattle.limits.specs.Limits.{maxWidth, lastBytes}
-use Rattle.coder.specs.Writing.{Stage, step, after}
+use Rattle.coder.specs.Writing.{Stage, counted, step, after}
 use Rattle.coder.proofs.Writing.{after-append}
+use Rattle.coder.proofs.Revisits.{revisits-shifts}
 use Rattle.coder.specs.Reading.{readPels, pelOf}
 use Rattle.coder.specs.Page.{Page, contextOf, entryAt, size, sense, move}
 use Rattle.estimate.specs.Estimate.{rowOf, LawfulTable}
@@ -27,6 +28,7 @@ use Rattle.template.proofs.Sliding.{slid-next, slid-small, length-pels, pels-bi
 use Rattle.template.specs.Packing.{Row}
 use Rattle.template.proofs.Packing.{row-next, pels-next, byte-room}
 use Rattle.band.specs.Band.{qScheme, qWriter, qPage}
+use Rattle.band.proofs.Revisits.{q-counts}
 use Rattle.row.specs.WrittenRow.{Pelled, bytesOf, stageOf, pageOf, through}
 use Rattle.row.proofs.WrittenRow.{page-within, step-within, few-bytes, pelled-ready, pelled-count, pelled-lawful}
 use Rattle.interval.specs.Interval.{decision, partOf}
@@ -85,14 +87,16 @@ told-again : (s : ℕ) (b : Bool) → s ≤ 1 → eqb (pelOf s b) s ≡ b
 told-again s true h = borrow.Author.Tests.eq-eqb s s refl
 told-again s false h = borrow.Author.Tests.ne-eqb (1 - s) s (λ e. omega arith)
 
-module _ (width : ℕ) (above t₀ : List ℕ) (c₀ : Coder) (code : List ℕ) (at₀ : ℕ) (good₀ : Bool) (v₀ : View) where
+module _ (width : ℕ) (above t₀ : List ℕ) (c₀ : Coder) (code : List ℕ) (at₀ n₀ : ℕ) (good₀ : Bool)
+    (v₀ : View) where
   abbrev pub begun : Stage (qPage width) qWriter
-  begun = stageOf width (pageOf width t₀ above []) (lift c₀ [])
+  begun = stageOf width (pageOf width t₀ above []) (lift c₀ []) n₀
 
-  pub record RowRead (row t : List ℕ) (c : Coder) (w : Window) (v : View) (at : ℕ) (good : Bool) (x : ℕ) : Type 0 where
+  pub record RowRead (row t : List ℕ) (c : Coder) (w : Window) (v : View) (at n : ℕ) (good : Bool) (x : ℕ) :
+      Type 0 where
     pub settled : List ℕ
     pub stage : through width begun (pelsTo row x) ≡ stageOf width (pageOf width t above (pelsTo row x))
-        (lift c settled)
+        (lift c settled) n
     pub read : (n : ℕ) → reads width (x + n) (pageOf width t₀ above []) (sightOf v₀ (c₀ .interval .width) code)
         ≡ pelsTo row x ++ reads width n (pageOf width t above (pelsTo row x)) (sightOf v (c .interval .width) code)
     pub matched : good ≡ (good₀ && matches code at₀ settled)
@@ -109,21 +113,28 @@ module _ (width : ℕ) (above t₀ : List ℕ) (c₀ : Coder) (code : List ℕ) 
     pub passed : x ≤ width
 
   -- the numbers in the loop
-  pub read-window : (row t : List ℕ) (c : Coder) (w : Window) (v : View) (at : ℕ) (good : Bool) (x : ℕ)
-      → ((y : ℕ) → getD above y 0 ≤ 1) → RowRead row t c w v at good x
+  pub read-window : (row t : List ℕ) (c : Coder) (w : Window) (v : View) (at n : ℕ) (good : Bool) (x : ℕ)
+      → ((y : ℕ) → getD above y 0 ≤ 1) → RowRead row t c w v at n good x
       → (w .above < 32) × (w .this < 4)
-  read-window row t c w v at good x b f = slid-small above (pelsTo row x) x w b (pels-bits row x) (f .slid)
+  read-window row t c w v at n good x b f = slid-small above (pelsTo row x) x w b (pels-bits row x) (f .slid)
+
+  -- no more pels were revisited than there were shifts
+  pub read-revisits : (row t : List ℕ) (c : Coder) (w : Window) (v : View) (at n : ℕ) (good : Bool) (x : ℕ)
+      → RowRead row t c w v at n good x → n₀ ≤ c₀ .interval .count → n ≤ c .interval .count
+  read-revisits row t c w v at n good x f h =
+      subst (λ (s : Stage (qPage width) qWriter). s .revisits ≤ s .writer .interval .count) (f .stage)
+      (revisits-shifts (qPage width) qWriter q-counts (pelsTo row x) begun h)
 
   -- there is room for the pel in its byte
-  pub read-room : (row t : List ℕ) (c : Coder) (w : Window) (v : View) (at : ℕ) (good : Bool) (x p : ℕ)
-      → RowRead row t c w v at good x
+  pub read-room : (row t : List ℕ) (c : Coder) (w : Window) (v : View) (at n : ℕ) (good : Bool) (x p : ℕ)
+      → RowRead row t c w v at n good x
       → x < maxWidth → p ≤ 1 → getD row (x / 8) 0 + p * 2 ^ (7 - x % 8) ≤ 255
-  read-room row t c w v at good x p f h b = byte-room row x p (f .packed) h b
+  read-room row t c w v at n good x p f h b = byte-room row x p (f .packed) h b
 
   pub read-start : (w : Window) → Slid above [] 0 w → LawfulTable t₀ → Ready (lift c₀ [])
       → Row (replicate lastBytes 0) 0
       → v₀ .at ≤ length code → v₀ .look ≤ 7 → v₀ .x < 2 ^ 32
-      → RowRead (replicate lastBytes 0) t₀ c₀ w v₀ at₀ good₀ 0
+      → RowRead (replicate lastBytes 0) t₀ c₀ w v₀ at₀ n₀ good₀ 0
   unfolding pelsTo after matches
   read-start w s l r p a b d =
       record {
@@ -146,8 +157,8 @@ module _ (width : ℕ) (above t₀ : List ℕ) (c₀ : Coder) (code : List ℕ) 
       }
 
   -- one pel more
-  module _ (row t : List ℕ) (c : Coder) (w : Window) (v : View) (at : ℕ) (good : Bool) (x : ℕ)
-      (f : RowRead row t c w v at good x)
+  module _ (row t : List ℕ) (c : Coder) (w : Window) (v : View) (at n : ℕ) (good : Bool) (x : ℕ)
+      (f : RowRead row t c w v at n good x)
       (h : x < width) (narrow : width ≤ maxWidth)
       (bits : (y : ℕ) → getD above y 0 ≤ 1) (told : Told) where
     abbrev this : List ℕ
@@ -181,13 +192,16 @@ module _ (width : ℕ) (above t₀ : List ℕ) (c₀ : Coder) (code : List ℕ) 
       abbrev t′ : List ℕ
       t′ = set t cx (u .entry)
 
+      abbrev n′ : ℕ
+      n′ = counted (u .revisited) n
+
       -- the writer's step
-      next-step : step (qPage width) qWriter (stageOf width (pageOf width t above this) (lift c (f .settled))) p
-          ≡ stageOf width (pageOf width t′ above (this ++ (p ∷ []))) (lift (u .coder) (f .settled ++ bytesOf u))
-      next-step = step-within width t above this c (f .settled) p u short pelled
+      next-step : step (qPage width) qWriter (stageOf width (pageOf width t above this) (lift c (f .settled)) n) p
+          ≡ stageOf width (pageOf width t′ above (this ++ (p ∷ []))) (lift (u .coder) (f .settled ++ bytesOf u)) n′
+      next-step = step-within width t above this c (f .settled) n p u short pelled
 
       next-stage : through width begun (this ++ (p ∷ [])) ≡ stageOf width (pageOf width t′ above (this ++ (p ∷ [])))
-          (lift (u .coder) (f .settled ++ bytesOf u))
+          (lift (u .coder) (f .settled ++ bytesOf u)) n′
       unfolding after
       next-stage =
           after-append (qPage width) qWriter this (p ∷ []) begun ∙ ap (λ (s : Stage (qPage width) qWriter). step
@@ -212,7 +226,7 @@ module _ (width : ℕ) (above t₀ : List ℕ) (c₀ : Coder) (code : List ℕ) 
           ∙ ap (λ (b : Bool). move qScheme width under p (ltb (partOf (decision (rowOf e) b) (c .interval) .width)
           0x1000)) (sym same)
           ∙ ap (λ (s : Stage (qPage width) qWriter). s .model)
-          (sym (ap (λ (m : Page). step (qPage width) qWriter (stageOf width m (lift c (f .settled))) p) within-row)
+          (sym (ap (λ (m : Page). step (qPage width) qWriter (stageOf width m (lift c (f .settled)) n) p) within-row)
           ∙ next-step)
 
       one-read : (n : ℕ) → reads width (suc n) (pageOf width t above this) seen ≡ p ∷ reads width n
@@ -243,15 +257,15 @@ module _ (width : ℕ) (above t₀ : List ℕ) (c₀ : Coder) (code : List ℕ) 
       read-again : (w′ : Window) (at′ : ℕ) (good′ : Bool) → w′ .above ≡ (2 * w .above + getD above (x + 3) 0) % 32
           → w′ .this ≡ (2 * w .this + p) % 4
           → at′ ≡ at + u .settled → good′ ≡ (good && matches code at (bytesOf u))
-          → RowRead row′ t′ (u .coder) w′ (told .view) at′ good′ (suc x)
+          → RowRead row′ t′ (u .coder) w′ (told .view) at′ n′ good′ (suc x)
       read-again w′ at′ good′ wa wt ea eg =
-          let n : length (bytesOf u) ≡ u .settled = few-bytes width above row t₀ c₀ [] at₀ u (k .pelled .few) in
+          let few : length (bytesOf u) ≡ u .settled = few-bytes width above row t₀ c₀ [] at₀ n₀ u (k .pelled .few) in
           let m : length (f .settled ++ bytesOf u) ≡ length (f .settled) + length (bytesOf u) =
           length-append (f .settled) (bytesOf u) in
           record {
             settled = f .settled ++ bytesOf u;
             stage = subst (λ (l : List ℕ). through width begun l ≡ stageOf width (pageOf width t′ above l)
-                (lift (u .coder) (f .settled ++ bytesOf u))) (sym pels-are) next-stage;
+                (lift (u .coder) (f .settled ++ bytesOf u)) n′) (sym pels-are) next-stage;
             read = λ j.
                 subst (λ (l : List ℕ). reads width (suc x + j) (pageOf width t₀ above [])
                 (sightOf v₀ (c₀ .interval .width) code) ≡ l ++ reads width j (pageOf width t′ above l)
@@ -281,19 +295,19 @@ module _ (width : ℕ) (above t₀ : List ℕ) (c₀ : Coder) (code : List ℕ) 
           }
 
     -- the same, with the numbers as the code has them
-    pub read-turn : (cx′ p′ weight : ℕ) (t″ : List ℕ) (w′ : Window) (at′ : ℕ) (good′ : Bool)
+    pub read-turn : (cx′ p′ weight : ℕ) (t″ : List ℕ) (w′ : Window) (at′ n″ : ℕ) (good′ : Bool)
         → t″ ≡ set t cx′ (u .entry) → cx′ ≡ context above this x → ReadPel c v code (getD t cx′ 0) told
         → p′ ≡ pelOf (getD t cx′ 0 % 2) (told .expected)
         → weight ≡ p′ * 2 ^ (7 - x % 8) → w′ .above ≡ (2 * w .above + getD above (x + 3) 0) % 32
         → w′ .this ≡ (2 * w .this + p′) % 4
-        → at′ ≡ at + u .settled → good′ ≡ (good && matches code at (bytesOf u))
-        → RowRead (set row (x / 8) (getD row (x / 8) 0 + weight)) t″ (u .coder) w′ (told .view) at′ good′ (suc x)
-    read-turn cx′ p′ weight t″ w′ at′ good′ et ec k ep ew wa wt ea eg =
+        → at′ ≡ at + u .settled → n″ ≡ counted (u .revisited) n → good′ ≡ (good && matches code at (bytesOf u))
+        → RowRead (set row (x / 8) (getD row (x / 8) 0 + weight)) t″ (u .coder) w′ (told .view) at′ n″ good′ (suc x)
+    read-turn cx′ p′ weight t″ w′ at′ n″ good′ et ec k ep ew wa wt ea en eg =
         let ec′ : cx′ ≡ cx = ec ∙ ap (context above this) (sym (length-pels row x)) in
         let ep′ : p′ ≡ p = ep ∙ ap (λ (z : ℕ). pelOf (getD t z 0 % 2) (told .expected)) ec′ in
         let r = read-again (subst (λ (z : ℕ). ReadPel c v code (getD t z 0) told) ec′ k) w′ at′ good′ wa
         (wt ∙ ap (λ (z : ℕ). (2 * w .this + z) % 4) ep′) ea eg in
-        subst (λ (z : ℕ). RowRead (set row (x / 8) (getD row (x / 8) 0 + z)) t″ (u .coder) w′ (told .view) at′ good′
+        subst (λ (z : ℕ). RowRead (set row (x / 8) (getD row (x / 8) 0 + z)) t″ (u .coder) w′ (told .view) at′ n″ good′
         (suc x)) (sym (ew ∙ ap (λ (z : ℕ). z * 2 ^ (7 - x % 8)) ep′))
-        (subst (λ (z : List ℕ). RowRead (set row (x / 8) (getD row (x / 8) 0 + p * 2 ^ (7 - x % 8))) z (u .coder) w′
-        (told .view) at′ good′ (suc x)) (sym (et ∙ ap (λ (z : ℕ). set t z (u .entry)) ec′)) r)
+        (subst₂ (λ (z : List ℕ) (m : ℕ). RowRead (set row (x / 8) (getD row (x / 8) 0 + p * 2 ^ (7 - x % 8))) z
+        (u .coder) w′ (told .view) at′ m good′ (suc x)) (sym (et ∙ ap (λ (z : ℕ). set t z (u .entry)) ec′)) (sym en) r)

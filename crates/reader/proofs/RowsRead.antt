@@ -11,19 +11,20 @@ use lib.Seq.{paste, take-at, drop-append-add, drop-drop, getD-append-add}
 use Rattle.limits.specs.Limits.{maxWidth, lastBytes}
 use Rattle.coder.specs.Writing.{Stage, after}
 use Rattle.coder.proofs.Writing.{after-append}
+use Rattle.coder.proofs.Revisits.{revisits-shifts}
 use Rattle.coder.specs.Page.{Page}
 use Rattle.estimate.specs.Estimate.{LawfulTable}
 use Rattle.octets.specs.Octets.{Registers, start}
 use Rattle.octets.specs.Fit.{Ready}
 use Rattle.octets.proofs.Fit.{ready-start}
-use Rattle.octets.proofs.Loops.{behind}
 use Rattle.octets.specs.Lift.{lift}
 use Rattle.exact.specs.Sight.{Sight, opened}
 use Rattle.template.specs.Pels.{rowBytes, pelsTo, bandTo, bandPadded}
 use Rattle.band.specs.Band.{IsBand, qWriter, qPage, pageAt}
+use Rattle.band.proofs.Revisits.{q-counts}
 use Rattle.row.specs.WrittenRow.{stageOf, through}
 use Rattle.row.proofs.WrittenRow.{lift-behind}
-use Rattle.writer.proofs.RowByRow.{behind-through}
+use Rattle.writer.proofs.RowByRow.{put-behind, behind-through}
 use Rattle.reader.specs.declared.Progress.{Progress}
 use Rattle.reader.specs.declared.Line.{Line}
 use Rattle.sight.specs.Views.{sightOf}
@@ -36,11 +37,11 @@ use Rattle.reader.specs.Reads.{BandRead, begun}
 
 module _ (width : ℕ) (last code t₀ out₀ : List ℕ) where
   pub reads-start : (r : Progress) → lift (r .coder) [] ≡ start → r .table .entries ≡ t₀ → LawfulTable t₀ → r .at ≡ 0
-      → r .good ≡ true → sightOf (r .view) 4096 code ≡ opened code
+      → r .revisits ≡ 0 → r .good ≡ true → sightOf (r .view) 4096 code ≡ opened code
       → r .view .at ≤ length code → r .view .look ≤ 7 → r .view .x < 2 ^ 32 → BandRead width last code t₀ out₀
       last r out₀ 0
   unfolding bandTo after matches bandPadded
-  reads-start r e t l a g v w n s =
+  reads-start r e t l a z g v w n s =
       let width-is : r .coder .interval .width ≡ 4096 = ap (λ (k : Registers). k .interval .width) e in
       record {
         band = [];
@@ -48,7 +49,9 @@ module _ (width : ℕ) (last code t₀ out₀ : List ℕ) where
         front = ap (λ (k : ℕ). drop k out₀) (sym (zero-mul (rowBytes width)));
         settled = [];
         stage = ap₂ (λ (k : List ℕ) (x : Registers). stageOf width
-            (record { table = k; above = pelsTo last width; this = [] }) x) (sym t) (sym e);
+            (record { table = k; above = pelsTo last width; this = [] }) x 0) (sym t) (sym e)
+            ∙ ap (stageOf width (record { table = r .table .entries; above = pelsTo last width; this = [] })
+            (lift (r .coder) [])) (sym z);
         read = λ n.
             ap (λ (k : ℕ). reads width k (pageAt width t₀ last) (opened code)) (ap (λ (k : ℕ). k + n) (zero-mul width)
             ∙ zero-add n)
@@ -95,17 +98,17 @@ module _ (width : ℕ) (last code t₀ out₀ : List ℕ) where
     grown = pels-grow width y (b .band) row (b .isBand .size) row-size ∙ ap (λ (k : List ℕ). bandTo width (b .band) y
         ++ k) row-pels
 
-    from-line : through width (stageOf width here (lift (s .coder) (b .settled))) (pelsTo (l .row) width) ≡ stageOf
-        width next (lift (l .reading .coder) (b .settled ++ f .settled))
+    from-line : through width (stageOf width here (lift (s .coder) (b .settled)) (s .revisits))
+        (pelsTo (l .row) width) ≡ stageOf width next (lift (l .reading .coder) (b .settled ++ f .settled))
+        (l .reading .revisits)
     from-line =
-        ap (λ (w : Registers). through width (stageOf width here w) (pelsTo (l .row) width))
+        ap (λ (w : Registers). through width (stageOf width here w (s .revisits)) (pelsTo (l .row) width))
         (lift-behind (s .coder) (b .settled)) ∙ behind-through width (pelsTo (l .row) width) here (b .settled)
-        (lift (s .coder) [])
-        ∙ ap (λ (x : Stage (qPage width) qWriter). stageOf width (x .model) (behind (b .settled) (x .writer)))
-        (f .stage)
+        (lift (s .coder) []) (s .revisits)
+        ∙ ap (put-behind width (b .settled)) (f .stage)
 
     next-stage : through width (begun width last code t₀ out₀) (bandTo width (b .band ++ row) (suc y)) ≡ stageOf width
-        next (lift (l .reading .coder) (b .settled ++ f .settled))
+        next (lift (l .reading .coder) (b .settled ++ f .settled)) (l .reading .revisits)
     next-stage =
         ap (through width (begun width last code t₀ out₀)) grown ∙ after-append (qPage width) qWriter
         (bandTo width (b .band) y) (pelsTo (l .row) width) (begun width last code t₀ out₀)
@@ -174,6 +177,14 @@ module _ (width : ℕ) (last code t₀ out₀ : List ℕ) where
               ∙ ap (λ (k : List ℕ). k ++ replicate (lastBytes - bytes) 0)
               (sym (last-grow width y (b .band) row (b .isBand .size) row-size 0));
         }
+
+  -- no more pels were revisited than there were shifts
+  pub reads-revisits : (above : List ℕ) (r : Progress) (out : List ℕ) (y : ℕ) → BandRead width last code t₀ out₀ above
+      r out y → r .revisits ≤ r .coder .interval .count
+  reads-revisits above r out y b =
+      subst (λ (s : Stage (qPage width) qWriter). s .revisits ≤ s .writer .interval .count) (b .stage)
+      (revisits-shifts (qPage width) qWriter q-counts (bandTo width (b .band) y) (begun width last code t₀ out₀)
+      (omega arith))
 
 -- there is room for the next row
 pub next-room : (y rows bytes len : ℕ) → y < rows → rows * bytes ≤ len → y * bytes + bytes ≤ len

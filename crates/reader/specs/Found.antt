@@ -16,8 +16,12 @@ use Rattle.reader.specs.declared.Read.{Read}
 unfoldable pub rowsFit : ℕ → ℕ → List ℕ → Bool
 rowsFit width rows out = leb (rows * rowBytes width) (length out)
 
--- Accepted: S, the table and the last row after are those of writing that band. Damaged, or no room: nothing is
--- changed.
+-- Damaged, or no room: nothing is changed.
+abbrev pub notRead : Bool → Table → List ℕ → Read
+notRead room table last =
+    record { room = room; good = false; length = 0; shifts = 0; revisits = 0; table = table; last = last }
+
+-- Accepted: S, the pels revisited, the table and the last row after are those of writing that band.
 unfoldable pub readAnswer : Option (List ℕ) → ℕ → ℕ → Table → List ℕ → List ℕ → Read
 readAnswer (some band) width rows table last out =
     cond (rowsFit width rows out)
@@ -26,12 +30,12 @@ readAnswer (some band) width rows table last out =
       good = true;
       length = length band;
       shifts = written width rows (table .entries) last band .shifts;
+      revisits = written width rows (table .entries) last band .revisits;
       table = record { entries = written width rows (table .entries) last band .table };
       last = written width rows (table .entries) last band .last;
     })
-    (record { room = false; good = false; length = 0; shifts = 0; table = table; last = last })
-readAnswer none width rows table last out =
-    record { room = rowsFit width rows out; good = false; length = 0; shifts = 0; table = table; last = last }
+    (notRead false table last)
+readAnswer none width rows table last out = notRead (rowsFit width rows out) table last
 
 -- the band's rows in front and the rest kept; else all zero
 unfoldable pub readOut : Option (List ℕ) → ℕ → ℕ → List ℕ → List ℕ

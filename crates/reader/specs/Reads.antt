@@ -19,7 +19,7 @@ use Rattle.reader.specs.ReadRow.{matches, reads}
 
 module _ (width : ℕ) (last code t₀ out₀ : List ℕ) where
   abbrev pub begun : Stage (qPage width) qWriter
-  begun = stageOf width (pageAt width t₀ last) start
+  begun = stageOf width (pageAt width t₀ last) start 0
 
   -- y rows are read; `above` is the last of them, in its room
   pub record BandRead (above : List ℕ) (r : Progress) (out : List ℕ) (y : ℕ) : Type 0 where
@@ -29,6 +29,7 @@ module _ (width : ℕ) (last code t₀ out₀ : List ℕ) where
     pub settled : List ℕ
     pub stage : through width begun (bandTo width band y) ≡ stageOf width
         (record { table = r .table .entries; above = pelsTo above width; this = [] }) (lift (r .coder) settled)
+        (r .revisits)
     pub read : (n : ℕ) → reads width (y * width + n) (pageAt width t₀ last) (opened code)
         ≡ bandTo width band y ++ reads width n
         (record { table = r .table .entries; above = pelsTo above width; this = [] })

@@ -26,8 +26,8 @@ module _ (width : ℕ) (above code : List ℕ) (s : Progress) where
 
   pub record LineRead (l : Line) : Type 0 where
     pub settled : List ℕ
-    pub stage : through width (stageOf width under (lift (s .coder) [])) (pelsTo (l .row) width) ≡ stageOf width
-        (then l) (lift (l .reading .coder) settled)
+    pub stage : through width (stageOf width under (lift (s .coder) []) (s .revisits)) (pelsTo (l .row) width)
+        ≡ stageOf width (then l) (lift (l .reading .coder) settled) (l .reading .revisits)
     pub read : (n : ℕ) → reads width (width + n) under (sightOf (s .view) (s .coder .interval .width) code)
         ≡ pelsTo (l .row) width ++ reads width n (then l)
         (sightOf (l .reading .view) (l .reading .coder .interval .width) code)

@@ -15,19 +15,20 @@ ghost use Rattle.exact.specs.Sight as law;
 ghost use Rattle.reader.specs.ReadRow.{matchAt, matches};
 ghost use Rattle.reader.specs.RowRead.{LineRead};
 ghost use Rattle.reader.specs.Reads.{BandRead};
-ghost use Rattle.reader.specs.Found.{BandFound};
+ghost use Rattle.reader.specs.Found.{notRead, BandFound};
 use estimate::Table;
 use limits::ROW;
 use octets::Coder;
 use sight::View;
 use template::Window;
 
-// Where a reading stands: the writer's registers, the table, the bytes settled so far, whether each agreed with the
-// code, and what is in sight.
+// Where a reading stands: the writer's registers, the table, the bytes settled and the pels revisited so far, whether
+// each byte agreed with the code, and what is in sight.
 pub struct Progress {
     pub coder: Coder,
     pub table: Table,
     pub at: usize,
+    pub revisits: u64,
     pub good: bool,
     pub view: View,
 }
@@ -97,12 +98,14 @@ pub fn read_row(code: &[u8], above: &[u8], width: usize, start: Progress) -> Lin
     requires { ⌜ (width ≤ maxWidth) × (width ≤ 8 * length (now above)) × (1 ≤ width)
         × LawfulTable (start .table .entries) × Ready (lift (start .coder) [])
         × (start .coder .interval .count + 12 * maxWidth ≤ maxShifts) × (start .at + 2 * maxWidth ≤ farthest)
+        × (start .revisits ≤ start .coder .interval .count)
         × (start .view .at ≤ length (now code)) × (start .view .look ≤ 7) × (start .view .x < 2 ^ 32) ⌝ }
     ensures { λ r. ⌜ LineRead width (pelsTo (now (above .entry)) width) (now (code .entry)) start r ⌝ }
 {
     let mut coder = start.coder;
     let mut table = start.table;
     let mut at = start.at;
+    let mut revisits = start.revisits;
     let mut good = start.good;
     let mut view = start.view;
     let mut window = Window::start(above, width);
@@ -131,10 +134,11 @@ pub fn read_row(code: &[u8], above: &[u8], width: usize, start: Progress) -> Lin
         let v = told.pel;
         coder = v.coder;
         view = told.view;
-        if v.moved {
+        if v.revisited {
             table.entries[cx] = v.entry;
             good = match_two(code, at, v.settled, v.first, v.second, good);
             at = at + v.settled;
+            revisits += 1;
         }
         window = window.slide(above, width, x, p);
         let j = x / 8;
@@ -147,19 +151,21 @@ pub fn read_row(code: &[u8], above: &[u8], width: usize, start: Progress) -> Lin
             coder: coder,
             table: table,
             at: at,
+            revisits: revisits,
             good: good,
             view: view,
         },
     }
 }
 
-// What reading a band gives: whether there was room, whether the code was good, the bytes of all rows, S, and the table
-// and last row after it.
+// What reading a band gives: whether there was room, whether the code was good, the bytes of all rows, S, the pels
+// revisited, and the table and last row after it.
 pub struct Read {
     pub room: bool,
     pub good: bool,
     pub length: usize,
     pub shifts: u64,
+    pub revisits: u64,
     pub table: Table,
     pub last: [u8; ROW],
 }
@@ -192,6 +198,7 @@ pub fn read_rows(
         coder: coder,
         table: table,
         at: 0,
+        revisits: 0,
         good: true,
         view: view,
     };
@@ -232,13 +239,14 @@ pub fn as_long(same: bool, n: usize, len: usize) -> bool
 
 // Nothing is read, for want of room or of a good code.
 fn not_read(room: bool, table: Table, last: [u8; ROW]) -> Read
-    ensures { λ r. ⌜ r ≡ record { room = room; good = false; length = 0; shifts = 0; table = table; last = last } ⌝ }
+    ensures { λ r. ⌜ r ≡ notRead room table last ⌝ }
 {
     Read {
         room: room,
         good: false,
         length: 0,
         shifts: 0,
+        revisits: 0,
         table: table,
         last: last,
     }
@@ -276,6 +284,7 @@ pub fn read_band(
             good: true,
             length: length,
             shifts: coder.interval.count,
+            revisits: reading.revisits,
             table: after,
             last: row,
         };

@@ -18,7 +18,7 @@ use Rattle.band.specs.Band.{Written, Right}
 use Rattle.marker.specs.Marker.{marked}
 use Rattle.marker.proofs.Never.{found-unmarked}
 use Rattle.reader.specs.declared.Read.{Read}
-use Rattle.reader.specs.Found.{rowsFit, readAnswer, readOut, BandFound}
+use Rattle.reader.specs.Found.{rowsFit, notRead, readAnswer, readOut, BandFound}
 use Rattle.unique.specs.BandOfCode.{bandOfCode}
 use Rattle.unique.proofs.OneReader.{right-found}
 use Rattle.desk.specs.declared.Ask.{Ask}
@@ -106,12 +106,13 @@ module _ (d : Desk) (ask : Ask) (code out : List ℕ) (i : ℕ) (t : StoodTo d (
         good = true;
         length = length band;
         shifts = w .shifts;
+        revisits = w .revisits;
         table = record { entries = w .table };
         last = w .last;
       }
 
   abbrev unanswered : Read
-  unanswered = record { room = false; good = false; length = 0; shifts = 0; table = page .table; last = page .last }
+  unanswered = notRead false (page .table) (page .last)
 
   -- room is told as it is
   room-is : r .room ≡ fits

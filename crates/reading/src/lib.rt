@@ -69,5 +69,5 @@ pub fn read<'a, 'b, 'c>(
     }
     let row = read.last;
     let next = parts::put_page(book, working, rows, i, page, read.table, row);
-    parts::done(read.length as u64, read.shifts, next)
+    parts::done(read.length as u64, read.shifts, read.revisits, next)
 }

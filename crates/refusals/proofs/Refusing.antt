@@ -34,8 +34,8 @@ use Rattle.desk.specs.Calls.{Call, keyOf, lentTo}
 use Rattle.desk.specs.Standing.{stand, openPage, pageBy}
 use Rattle.desk.specs.Tests.{unlawful, unknown}
 use Rattle.desk.specs.Changes.{changed}
-use Rattle.desk.specs.Allowed.{refused, done, unless, unlessLent, number, effectOn, outcome, lent, Allowed}
-use Rattle.parts.specs.Replies.{refusedBy, doneBy, outcomeOf, Serves}
+use Rattle.desk.specs.Allowed.{refused, doneAs, done, unless, unlessLent, number, effectOn, outcome, lent, Allowed}
+use Rattle.parts.specs.Replies.{refusedBy, outcomeOf, Serves}
 use Rattle.refusals.specs.declared.Stands.{Stands}
 use Rattle.refusals.specs.declared.Stands.the-variants.{On, Refused}
 use Rattle.refusals.specs.Stands.{early, onPage, standing, standingTo, numberOf}
@@ -230,8 +230,7 @@ module _ (d : Desk) (c : Call) where
       }
 
   pub accepts-so : (r : Outcome) (after : List ℕ) → number bandOfCode d c ≡ 0
-      → r ≡ done (effectOn bandOfCode d c .length) (effectOn bandOfCode d c .shifts)
-      (changed d (keyOf c) (effectOn bandOfCode d c .page)
+      → r ≡ done (effectOn bandOfCode d c) (changed d (keyOf c) (effectOn bandOfCode d c .page)
       (effectOn bandOfCode d c .learned))
       → after ≡ effectOn bandOfCode d c .lent → Allowed d c r after
   unfolding outcome lent
@@ -265,7 +264,7 @@ module _ (p : Parts) (w : Whole p) (c : Call) where
 -- the book and the arrays that it leaves, their sizes kept
 pub accepts : (p : Parts) (c : Call) (x : Reply) (book : Book) (working rows learned : List (List ℕ)) (after : List ℕ)
     → Whole (partsOf book working rows learned) → number bandOfCode (deskOf p) c ≡ 0
-    → x ≡ doneBy (effectOn bandOfCode (deskOf p) c .length) (effectOn bandOfCode (deskOf p) c .shifts) book
+    → x ≡ record { answer = doneAs (effectOn bandOfCode (deskOf p) c); book = book }
     → deskOf (partsOf book working rows learned) ≡ changed (deskOf p) (keyOf c) (effectOn bandOfCode (deskOf p) c .page)
     (effectOn bandOfCode (deskOf p) c .learned)
     → after ≡ effectOn bandOfCode (deskOf p) c .lent → Serves p c (x .answer) (partsOf (x .book) working rows learned)
@@ -274,9 +273,7 @@ accepts p c x book working rows learned after w e q a l =
     record {
       allowed = accepts-so (deskOf p) c _ after e
           (ap (λ (y : Reply). left y working rows learned) q
-          ∙ ap (λ (z : Desk). done (effectOn bandOfCode (deskOf p) c .length)
-          (effectOn bandOfCode (deskOf p) c .shifts) z)
-          a) l;
+          ∙ ap (done (effectOn bandOfCode (deskOf p) c)) a) l;
       whole = whole-as (ap (λ (y : Reply). y .book) q) w;
     }
 

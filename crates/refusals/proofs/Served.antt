@@ -27,7 +27,7 @@ use Rattle.desk.specs.Standing.{stand, pageOf, pageBy}
 use Rattle.desk.specs.Calls.{Call, keyOf}
 use Rattle.desk.specs.Effects.{Effect, becomes, stays, servedPage, serves}
 use Rattle.desk.specs.Changes.{pagesAfter, placesAfter, changed}
-use Rattle.desk.specs.Allowed.{number, effectOn}
+use Rattle.desk.specs.Allowed.{doneAs, number, effectOn}
 use Rattle.parts.specs.Replies.{doneBy, Serves}
 use Rattle.refusals.proofs.Refusing.{Stood, accepts}
 
@@ -58,12 +58,12 @@ module _ (p : Parts) (w : Whole p) (k : Key) (z : Bool) (i : ℕ) (t : Stood (de
       → number bandOfCode (deskOf p) c ≡ 0 → effectOn bandOfCode (deskOf p) c ≡ serves (pageIn p i) b bytes out
       → PagePut (p .book) (p .working) (p .rows) i (asPage (getD (p .book .pages) i noPageLine) (b .table) (b .last))
       next working rows
-      → x ≡ doneBy (length bytes) (b .shifts) next → after ≡ inFront bytes out
+      → x ≡ doneBy (length bytes) (b .shifts) (b .revisits) next → after ≡ inFront bytes out
       → Serves p c (x .answer) (partsOf (x .book) working rows (p .learned)) after
   unfolding servedPage
   band-done c b bytes out after x next working rows key e f put a l =
       accepts p c x next working rows (p .learned) after (page-whole w put) e
-      (a ∙ ap (λ (g : Effect). doneBy (g .length) (g .shifts) next) (sym f))
+      (a ∙ ap (λ (g : Effect). record { answer = doneAs g; book = next }) (sym f))
       (served-desk next working rows (servedPage (pageIn p i) b) (put .places) (put .pages)
       ∙ ap₂ (λ (j : Key) (g : Effect). changed (deskOf p) j (g .page) (g .learned)) (sym key) (sym f))
       (l ∙ ap (λ (g : Effect). g .lent) (sym f))

@@ -1,6 +1,6 @@
 -- A row as the writer's loop meets it: after x pels the table, the registers, the window and the buffer are the
 -- definition's. Assumes nothing.
-use mathlib.Core.Path.{_≡_, refl, sym, ap, ap₂, _∙_, subst}
+use mathlib.Core.Path.{_≡_, refl, sym, ap, ap₂, _∙_, subst, subst₂}
 use Prim.Native.Nat.{ℕ, suc, _+_, _-_, _*_, _%_, _≤_, _<_}
 use native.Mathlib.Omega.{arith}
 use mathlib.Core.Bool.{Bool, true, false, cond}
@@ -10,8 +10,9 @@ use lib.Seq.{set-getD}
 use lib.Dec.{eqb}
 use Rattle.ground.proofs.Bools.{no-way}
 use Rattle.ground.proofs.Tests.{if-eq, if-ne}
-use Rattle.coder.specs.Writing.{Stage, step, after}
+use Rattle.coder.specs.Writing.{Stage, counted, step, after}
 use Rattle.coder.proofs.Writing.{after-append}
+use Rattle.coder.proofs.Revisits.{revisits-shifts}
 use Rattle.coder.specs.Page.{Page, contextOf, entryAt, size, sense, taught, placed, move}
 use Rattle.estimate.specs.Estimate.{rowOf, next, LawfulEntry, LawfulTable}
 use Rattle.estimate.proofs.LawfulEntries.{row-sized, next-lawful, set-lawful}
@@ -34,6 +35,7 @@ use Rattle.template.specs.Window.{Slid}
 use Rattle.template.proofs.Sliding.{slid-next, slid-small, length-pels, pels-bits, pel-bit}
 use Rattle.row.specs.declared.Pel.{Pel}
 use Rattle.band.specs.Band.{qWriter, qPage}
+use Rattle.band.proofs.Revisits.{q-counts}
 use Rattle.row.specs.WrittenRow.{shiftedBy, Pelled, stillPel, decided, movedPel, bytesOf, pageOf, stageOf}
 use Rattle.row.specs.WrittenRow.{through}
 use Rattle.row.specs.WrittenRow.{begun, RowDone}
@@ -44,7 +46,7 @@ pelled-still c e h =
     record {
       registers = pel-upper (rowOf e) (lift c []) h;
       entry = rw n;
-      moved = sym n;
+      revisited = sym n;
       quiet = λ z. refl;
       few = omega arith;
     }
@@ -54,7 +56,7 @@ pub pelled-moved : (c : Coder) (e : ℕ) (b : Bool) (u : Put) (n : ℕ) → part
     → Pelled c e b (movedPel u n)
 pelled-moved c e b u n h r f k =
     let m : shiftedBy c e b ≡ true = lt-ltb (partOf (decided e b) (c .interval) .width) 4096 h in
-    record { registers = r; entry = rw m k; moved = sym m; quiet = λ z. no-way z; few = f }
+    record { registers = r; entry = rw m k; revisited = sym m; quiet = λ z. no-way z; few = f }
 
 pub pelled-ready : (c : Coder) (e : ℕ) (b : Bool) (v : Pel) → Ready (lift c []) → Pelled c e b v
     → Ready (lift (v .coder) [])
@@ -73,19 +75,21 @@ pelled-lawful c e b v l k =
     (λ t. next-lawful b e l) (λ t. l))
 
 -- where there was no shift, no byte was settled,
-pub pelled-quiet : (c : Coder) (e : ℕ) (b : Bool) (v : Pel) → Pelled c e b v → v .moved ≡ false → bytesOf v ≡ []
+pub pelled-quiet : (c : Coder) (e : ℕ) (b : Bool) (v : Pel) → Pelled c e b v → v .revisited ≡ false → bytesOf v ≡ []
 pelled-quiet c e b v k z = ap (λ (n : ℕ). take n (v .first ∷ v .second ∷ [])) (k .quiet z)
 
--- and a table and a buffer that were left alone are those with that entry and with those bytes
-pub pelled-kept : (c : Coder) (t out : List ℕ) (cx at : ℕ) (b : Bool) (v : Pel) → Pelled c (getD t cx 0) b v
-    → v .moved ≡ false
+-- and a table, a buffer and a count that were left alone are those with that entry, those bytes and that pel
+pub pelled-kept : (c : Coder) (t out : List ℕ) (cx at n : ℕ) (b : Bool) (v : Pel) → Pelled c (getD t cx 0) b v
+    → v .revisited ≡ false
     → (t ≡ set t cx (v .entry)) × (out ≡ stores out at (bytesOf v)) × (at ≡ at + v .settled)
+    × (n ≡ counted (v .revisited) n)
 unfolding stores
-pelled-kept c t out cx at b v k z = (
-  sym (ap (set t cx) (k .entry ∙ ap (λ (s : Bool). cond s (next b (getD t cx 0)) (getD t cx 0)) (sym (k .moved) ∙ z))
+pelled-kept c t out cx at n b v k z = (
+  sym (ap (set t cx) (k .entry ∙ ap (λ (s : Bool). cond s (next b (getD t cx 0)) (getD t cx 0)) (sym (k .revisited) ∙ z))
       ∙ set-getD t cx 0),
   ap (stores out at) (sym (pelled-quiet c (getD t cx 0) b v k z)),
   omega (arith, k .quiet z),
+  ap (λ (s : Bool). counted s n) (sym z),
 )
 
 -- the bytes before stay before
@@ -115,7 +119,7 @@ module _ (width : ℕ) where
   page-full table above this h = if-eq (length this) width _ _ h
 
   -- one step within a row
-  module _ (table above this : List ℕ) (c : Coder) (xs : List ℕ) (p : ℕ) (v : Pel) where
+  module _ (table above this : List ℕ) (c : Coder) (xs : List ℕ) (n p : ℕ) (v : Pel) where
     abbrev cx : ℕ
     cx = context above this (length this)
 
@@ -134,20 +138,22 @@ module _ (width : ℕ) where
         go false n k = sym (set-getD table cx 0) ∙ ap (set table cx) (sym k)
 
     pub step-within : length this < width → Pelled c e b v
-        → step (qPage width) qWriter (stageOf width (pageOf width table above this) (lift c xs)) p
+        → step (qPage width) qWriter (stageOf width (pageOf width table above this) (lift c xs) n) p
         ≡ stageOf width (pageOf width (set table cx (v .entry)) above (this ++ (p ∷ [])))
-        (lift (v .coder) (xs ++ bytesOf v))
+        (lift (v .coder) (xs ++ bytesOf v)) (counted (v .revisited) n)
     unfolding size sense entryAt contextOf move taught
     step-within h k =
-        ap (λ (m : Page). step (qPage width) qWriter (stageOf width m (lift c xs)) p) (page-within table above this h)
-        ∙ ap₂ (λ (t : List ℕ) (w : Registers). stageOf width (pageOf width t above (this ++ (p ∷ []))) w)
-        (taught-set (k .entry)) (pelled-after c e b v xs k)
+        ap (λ (m : Page). step (qPage width) qWriter (stageOf width m (lift c xs) n) p) (page-within table above this h)
+        ∙ ap₂ (λ (t : List ℕ) (w : Registers). stageOf width (pageOf width t above (this ++ (p ∷ []))) w
+        (counted (shiftedBy c e b) n)) (taught-set (k .entry)) (pelled-after c e b v xs k)
+        ∙ ap (λ (s : Bool). stageOf width (pageOf width (set table cx (v .entry)) above (this ++ (p ∷ [])))
+        (lift (v .coder) (xs ++ bytesOf v)) (counted s n)) (sym (k .revisited))
 
-  module _ (above row t₀ : List ℕ) (c₀ : Coder) (out₀ : List ℕ) (at₀ : ℕ) where
-    pub record RowAt (t : List ℕ) (c : Coder) (w : Window) (out : List ℕ) (at x : ℕ) : Type 0 where
+  module _ (above row t₀ : List ℕ) (c₀ : Coder) (out₀ : List ℕ) (at₀ n₀ : ℕ) where
+    pub record RowAt (t : List ℕ) (c : Coder) (w : Window) (out : List ℕ) (at n x : ℕ) : Type 0 where
       pub settled : List ℕ
-      pub stage : through width (begun width above row t₀ c₀ out₀ at₀) (pelsTo row x) ≡ stageOf width
-          (pageOf width t above (pelsTo row x)) (lift c settled)
+      pub stage : through width (begun width above row t₀ c₀ out₀ at₀ n₀) (pelsTo row x) ≡ stageOf width
+          (pageOf width t above (pelsTo row x)) (lift c settled) n
       pub stored : out ≡ stores out₀ at₀ settled
       pub place : at ≡ at₀ + length settled
       pub few : length settled ≤ 2 * x
@@ -157,7 +163,8 @@ module _ (width : ℕ) where
       pub count : c .interval .count ≤ c₀ .interval .count + 12 * x
       pub passed : x ≤ width
 
-    pub row-start : (w : Window) → Slid above [] 0 w → LawfulTable t₀ → Ready (lift c₀ []) → RowAt t₀ c₀ w out₀ at₀ 0
+    pub row-start : (w : Window) → Slid above [] 0 w → LawfulTable t₀ → Ready (lift c₀ [])
+        → RowAt t₀ c₀ w out₀ at₀ n₀ 0
     unfolding pelsTo after stores
     row-start w s l r =
         record {
@@ -189,43 +196,43 @@ module _ (width : ℕ) where
         record { five = wa ∙ n .five; two = wt ∙ n .two }
 
     -- a pel p more, in the context cx
-    module _ (t : List ℕ) (c : Coder) (w : Window) (out : List ℕ) (at x : ℕ) (v : Pel) (r : RowAt t c w out at x)
+    module _ (t : List ℕ) (c : Coder) (w : Window) (out : List ℕ) (at n x : ℕ) (v : Pel) (r : RowAt t c w out at n x)
         (h : x < width) where
       abbrev this : List ℕ
       this = pelsTo row x
 
       again-stage : (cx p : ℕ) → cx ≡ context above this x → Pelled c (getD t cx 0) (eqb p (getD t cx 0 % 2)) v
-          → through width (begun width above row t₀ c₀ out₀ at₀) (this ++ (p ∷ [])) ≡ stageOf width
+          → through width (begun width above row t₀ c₀ out₀ at₀ n₀) (this ++ (p ∷ [])) ≡ stageOf width
           (pageOf width (set t cx (v .entry)) above (this ++ (p ∷ [])))
-          (lift (v .coder) (r .settled ++ bytesOf v))
+          (lift (v .coder) (r .settled ++ bytesOf v)) (counted (v .revisited) n)
       unfolding after
       again-stage cx p ec k =
           let l : length this ≡ x = length-pels row x in
           let ec′ : cx ≡ context above this (length this) = ec ∙ ap (context above this) (sym l) in
-          after-append (qPage width) qWriter this (p ∷ []) (begun width above row t₀ c₀ out₀ at₀)
+          after-append (qPage width) qWriter this (p ∷ []) (begun width above row t₀ c₀ out₀ at₀ n₀)
           ∙ ap (λ (s : Stage (qPage width) qWriter). step (qPage width) qWriter s p) (r .stage)
-          ∙ step-within t above this c (r .settled) p v (omega arith)
+          ∙ step-within t above this c (r .settled) n p v (omega arith)
           (subst (λ (z : ℕ). Pelled c (getD t z 0) (eqb p (getD t z 0 % 2)) v) ec′ k)
           ∙ ap (λ (z : ℕ). stageOf width (pageOf width (set t z (v .entry)) above (this ++ (p ∷ [])))
-          (lift (v .coder) (r .settled ++ bytesOf v))) (sym ec′)
+          (lift (v .coder) (r .settled ++ bytesOf v)) (counted (v .revisited) n)) (sym ec′)
 
-      pub row-again : (cx p : ℕ) (t′ : List ℕ) (w′ : Window) (out′ : List ℕ) (at′ : ℕ) → t′ ≡ set t cx (v .entry)
+      pub row-again : (cx p : ℕ) (t′ : List ℕ) (w′ : Window) (out′ : List ℕ) (at′ n′ : ℕ) → t′ ≡ set t cx (v .entry)
           → ((y : ℕ) → getD above y 0 ≤ 1) → cx ≡ context above this x → p ≡ pelAt row x
           → Pelled c (getD t cx 0) (eqb p (getD t cx 0 % 2)) v
           → w′ .above ≡ (2 * w .above + getD above (x + 3) 0) % 32 → w′ .this ≡ (2 * w .this + p) % 4
-          → out′ ≡ stores out at (bytesOf v) → at′ ≡ at + v .settled
-          → RowAt t′ (v .coder) w′ out′ at′ (suc x)
+          → out′ ≡ stores out at (bytesOf v) → at′ ≡ at + v .settled → n′ ≡ counted (v .revisited) n
+          → RowAt t′ (v .coder) w′ out′ at′ n′ (suc x)
       unfolding pelsTo
-      row-again cx p t′ w′ out′ at′ et b ec ep k wa wt eo ea =
-          let n : length (bytesOf v) ≡ v .settled = few-bytes v (k .few) in
+      row-again cx p t′ w′ out′ at′ n′ et b ec ep k wa wt eo ea en =
+          let few : length (bytesOf v) ≡ v .settled = few-bytes v (k .few) in
           let m : length (r .settled ++ bytesOf v) ≡ length (r .settled) + length (bytesOf v) =
           length-append (r .settled) (bytesOf v) in
-          subst (λ (z : List ℕ). RowAt z (v .coder) w′ out′ at′ (suc x)) (sym et)
+          subst₂ (λ (z : List ℕ) (j : ℕ). RowAt z (v .coder) w′ out′ at′ j (suc x)) (sym et) (sym en)
           (record {
             settled = r .settled ++ bytesOf v;
-            stage = subst (λ (z : ℕ). through width (begun width above row t₀ c₀ out₀ at₀) (this ++ (z ∷ []))
+            stage = subst (λ (z : ℕ). through width (begun width above row t₀ c₀ out₀ at₀ n₀) (this ++ (z ∷ []))
                 ≡ stageOf width (pageOf width (set t cx (v .entry)) above (this ++ (z ∷ [])))
-                (lift (v .coder) (r .settled ++ bytesOf v))) ep (again-stage cx p ec k);
+                (lift (v .coder) (r .settled ++ bytesOf v)) (counted (v .revisited) n)) ep (again-stage cx p ec k);
             stored = eo ∙ ap₂ (λ (o : List ℕ) (a : ℕ). stores o a (bytesOf v)) (r .stored) (r .place) ∙ stores-append
                 out₀ at₀ (r .settled) (bytesOf v);
             place = omega (arith, r .place);
@@ -240,24 +247,31 @@ module _ (width : ℕ) where
           })
 
     -- the numbers in the loop
-    pub row-window : (t : List ℕ) (c : Coder) (w : Window) (out : List ℕ) (at x : ℕ) → ((y : ℕ) → getD above y 0 ≤ 1)
-        → RowAt t c w out at x → (w .above < 32) × (w .this < 4)
-    row-window t c w out at x b r = slid-small above (pelsTo row x) x w b (pels-bits row x) (r .slid)
+    pub row-window : (t : List ℕ) (c : Coder) (w : Window) (out : List ℕ) (at n x : ℕ)
+        → ((y : ℕ) → getD above y 0 ≤ 1) → RowAt t c w out at n x → (w .above < 32) × (w .this < 4)
+    row-window t c w out at n x b r = slid-small above (pelsTo row x) x w b (pels-bits row x) (r .slid)
 
-    pub row-length : (t : List ℕ) (c : Coder) (w : Window) (out : List ℕ) (at x : ℕ) → RowAt t c w out at x
+    pub row-length : (t : List ℕ) (c : Coder) (w : Window) (out : List ℕ) (at n x : ℕ) → RowAt t c w out at n x
         → length out ≡ length out₀
-    row-length t c w out at x r = ap length (r .stored) ∙ length-stores out₀ at₀ (r .settled)
+    row-length t c w out at n x r = ap length (r .stored) ∙ length-stores out₀ at₀ (r .settled)
 
-    pub row-done : (t : List ℕ) (c : Coder) (w : Window) (out : List ℕ) (at x : ℕ) → RowAt t c w out at x → x ≡ width
-        → RowDone width above row t₀ c₀ out₀ at₀ t c out at
-    row-done t c w out at x r e =
-        let s : through width (begun width above row t₀ c₀ out₀ at₀) (pelsTo row width) ≡ stageOf width
-        (pageOf width t above (pelsTo row width)) (lift c (r .settled))
-        = subst (λ (n : ℕ). through width (begun width above row t₀ c₀ out₀ at₀) (pelsTo row n) ≡ stageOf width
-        (pageOf width t above (pelsTo row n)) (lift c (r .settled))) e (r .stage) in
+    -- no more pels were revisited than there were shifts
+    pub row-revisits : (t : List ℕ) (c : Coder) (w : Window) (out : List ℕ) (at n x : ℕ) → RowAt t c w out at n x
+        → n₀ ≤ c₀ .interval .count → n ≤ c .interval .count
+    row-revisits t c w out at n x r h =
+        subst (λ (s : Stage (qPage width) qWriter). s .revisits ≤ s .writer .interval .count) (r .stage)
+        (revisits-shifts (qPage width) qWriter q-counts (pelsTo row x) (begun width above row t₀ c₀ out₀ at₀ n₀) h)
+
+    pub row-done : (t : List ℕ) (c : Coder) (w : Window) (out : List ℕ) (at n x : ℕ) → RowAt t c w out at n x
+        → x ≡ width → RowDone width above row t₀ c₀ out₀ at₀ n₀ t c out at n
+    row-done t c w out at n x r e =
+        let s : through width (begun width above row t₀ c₀ out₀ at₀ n₀) (pelsTo row width) ≡ stageOf width
+        (pageOf width t above (pelsTo row width)) (lift c (r .settled)) n
+        = subst (λ (y : ℕ). through width (begun width above row t₀ c₀ out₀ at₀ n₀) (pelsTo row y) ≡ stageOf width
+        (pageOf width t above (pelsTo row y)) (lift c (r .settled)) n) e (r .stage) in
         record {
           settled = r .settled;
-          stage = s ∙ ap (λ (m : Page). stageOf width m (lift c (r .settled))) (page-full t above (pelsTo row width)
+          stage = s ∙ ap (λ (m : Page). stageOf width m (lift c (r .settled)) n) (page-full t above (pelsTo row width)
               (length-pels row width));
           stored = r .stored;
           place = r .place;

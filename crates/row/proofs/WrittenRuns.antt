@@ -22,7 +22,7 @@ use Rattle.row.specs.WrittenRow.{Pelled, stillPel}
 use Rattle.row.proofs.WrittenRow.{pelled-still, RowAt, row-again}
 
 -- ---- white pels in context 0, whose entry expects white
-module _ (width : ℕ) (above row t₀ : List ℕ) (c₀ : Coder) (out₀ : List ℕ) (at₀ : ℕ) (t out : List ℕ) (at : ℕ)
+module _ (width : ℕ) (above row t₀ : List ℕ) (c₀ : Coder) (out₀ : List ℕ) (at₀ n₀ : ℕ) (t out : List ℕ) (at n : ℕ)
     (white : getD t 0 0 % 2 ≡ 0)
     (b : (y : ℕ) → getD above y 0 ≤ 1) where
   abbrev e : ℕ
@@ -32,9 +32,9 @@ module _ (width : ℕ) (above row t₀ : List ℕ) (c₀ : Coder) (out₀ : List
   q = rowOf e
 
   abbrev On : Coder → ℕ → Type 0
-  On c x = RowAt width above row t₀ c₀ out₀ at₀ t c (whiteWindow above x) out at x
+  On c x = RowAt width above row t₀ c₀ out₀ at₀ n₀ t c (whiteWindow above x) out at n x
 
-  -- one of them: table, buffer and place stay
+  -- one of them: table, buffer, place and count stay
   one : (c : Coder) (x : ℕ) → On c x → x < width → 4096 + q ≤ c .interval .width → pelAt row x ≡ 0
       → getD above (x + 2) 0 ≡ 0 → On (stillBy q c)
       (suc x)
@@ -46,20 +46,20 @@ module _ (width : ℕ) (above row t₀ : List ℕ) (c₀ : Coder) (out₀ : List
       let k : Pelled c e (eqb 0 (e % 2)) (stillPel c e)
       = subst (λ (v : Bool). Pelled c e v (stillPel c e)) (sym (eq-eqb 0 (e % 2) (sym white)))
       (pelled-still c e wide) in
-      row-again width above row t₀ c₀ out₀ at₀ t c (whiteWindow above x) out at x (stillPel c e) r h 0 0 t
-      (whiteWindow above (suc x)) out at
-      (sym (set-getD t 0 0)) b cx (sym p) k (omega (arith, b (x + 3))) (omega arith) refl (omega arith)
+      row-again width above row t₀ c₀ out₀ at₀ n₀ t c (whiteWindow above x) out at n x (stillPel c e) r h 0 0 t
+      (whiteWindow above (suc x)) out at n
+      (sym (set-getD t 0 0)) b cx (sym p) k (omega (arith, b (x + 3))) (omega arith) refl (omega arith) refl
 
-  -- as the code has it: n of the pels up to y, from a window that is white, are one step
-  pub row-run : (c : Coder) (w : Window) (x y n s : ℕ) → RowAt width above row t₀ c₀ out₀ at₀ t c w out at x
+  -- as the code has it: m of the pels up to y, from a window that is white, are one step
+  pub row-run : (c : Coder) (w : Window) (x y m s : ℕ) → RowAt width above row t₀ c₀ out₀ at₀ n₀ t c w out at n x
       → 4 * w .above + w .this ≡ 0
-      → Clear row above width x y → x ≤ y → n ≤ y - x → s ≡ n * q → 4096 + s ≤ c .interval .width
-      → On (stillBy s c) (x + n)
-  row-run c w x y n s r z f l h e room =
-      subst (λ (k : ℕ). On (stillBy k c) (x + n)) (sym e)
-      (in-steps q x y (c .interval .width - 4096) (λ k v. On (stillBy k c) v) step n (omega arith) (omega arith)
+      → Clear row above width x y → x ≤ y → m ≤ y - x → s ≡ m * q → 4096 + s ≤ c .interval .width
+      → On (stillBy s c) (x + m)
+  row-run c w x y m s r z f l h e room =
+      subst (λ (k : ℕ). On (stillBy k c) (x + m)) (sym e)
+      (in-steps q x y (c .interval .width - 4096) (λ k v. On (stillBy k c) v) step m (omega arith) (omega arith)
       (subst (λ (d : Coder). On d x) (sym (still-none c))
-      (subst (λ (v : Window). RowAt width above row t₀ c₀ out₀ at₀ t c v out at x) (slid-white above (pelsTo row x) x w
+      (subst (λ (v : Window). RowAt width above row t₀ c₀ out₀ at₀ n₀ t c v out at n x) (slid-white above (pelsTo row x) x w
       (r .slid) z) r)))
     where
       step : (k v : ℕ) → x ≤ v → v < y → k + q ≤ c .interval .width - 4096 → On (stillBy k c) v

@@ -34,20 +34,20 @@ shiftedBy c e b = ltb (part (decided e b) (lift c []) .interval .width) 0x1000
 pub record Pelled (c : Coder) (e : ℕ) (b : Bool) (v : Pel) : Type 0 where
   pub registers : pel (decided e b) (lift c []) ≡ lift (v .coder) (bytesOf v)
   pub entry : v .entry ≡ cond (shiftedBy c e b) (next b e) e
-  pub moved : v .moved ≡ shiftedBy c e b
-  pub quiet : v .moved ≡ false → v .settled ≡ 0
+  pub revisited : v .revisited ≡ shiftedBy c e b
+  pub quiet : v .revisited ≡ false → v .settled ≡ 0
   pub few : v .settled ≤ 2
 
 -- an expected pel with no shift: its size is taken, and that is all
 abbrev pub stillPel : Coder → ℕ → Pel
-stillPel c e = record { coder = stillBy (rowOf e) c; entry = e; moved = false; settled = 0; first = 0; second = 0 }
+stillPel c e = record { coder = stillBy (rowOf e) c; entry = e; revisited = false; settled = 0; first = 0; second = 0 }
 
 -- a pel that shifts, from what the octets say of it
 abbrev pub movedPel : Put → ℕ → Pel
 movedPel u n = record {
   coder = u .coder;
   entry = n;
-  moved = true;
+  revisited = true;
   settled = u .settled;
   first = u .first;
   second = u .second;
@@ -55,8 +55,8 @@ movedPel u n = record {
 
 -- ---- a row
 module _ (width : ℕ) where
-  abbrev pub stageOf : Page → Registers → Stage (qPage width) qWriter
-  stageOf m w = record { model = m; writer = w }
+  abbrev pub stageOf : Page → Registers → ℕ → Stage (qPage width) qWriter
+  stageOf m w n = record { model = m; writer = w; revisits = n }
 
   abbrev pub pageOf : List ℕ → List ℕ → List ℕ → Page
   pageOf table above this = placed qScheme width table above this
@@ -65,15 +65,15 @@ module _ (width : ℕ) where
   through s ps = after (qPage width) qWriter s ps
 
   -- ---- the loop
-  module _ (above row t₀ : List ℕ) (c₀ : Coder) (out₀ : List ℕ) (at₀ : ℕ) where
+  module _ (above row t₀ : List ℕ) (c₀ : Coder) (out₀ : List ℕ) (at₀ n₀ : ℕ) where
     abbrev pub begun : Stage (qPage width) qWriter
-    begun = stageOf (pageOf t₀ above []) (lift c₀ [])
+    begun = stageOf (pageOf t₀ above []) (lift c₀ []) n₀
 
     -- the whole row
-    pub record RowDone (t : List ℕ) (c : Coder) (out : List ℕ) (at : ℕ) : Type 0 where
+    pub record RowDone (t : List ℕ) (c : Coder) (out : List ℕ) (at n : ℕ) : Type 0 where
       pub settled : List ℕ
       pub stage : through begun (pelsTo row width) ≡ stageOf
-          (record { table = t; above = pelsTo row width; this = [] }) (lift c settled)
+          (record { table = t; above = pelsTo row width; this = [] }) (lift c settled) n
       pub stored : out ≡ stores out₀ at₀ settled
       pub place : at ≡ at₀ + length settled
       pub few : length settled ≤ 2 * width

@@ -22,21 +22,23 @@ const LEARNED: u8 = 38;
 // Two bytes are no wide row: a look along them costs what it saves.
 const WIDE: usize = 17;
 
-// What a pel gives: the registers, its context's entry, whether it shifted, and the bytes settled, two at the most.
+// What a pel gives: the registers, its context's entry, whether its context's estimate was revisited, that is, whether
+// it shifted, and the bytes settled, two at the most.
 pub struct Pel {
     pub coder: Coder,
     pub entry: u8,
-    pub moved: bool,
+    pub revisited: bool,
     pub settled: usize,
     pub first: u8,
     pub second: u8,
 }
 
-// Where a band stands: the registers, the table, and the bytes settled so far.
+// Where a band stands: the registers, the table, the bytes settled and the pels revisited so far.
 pub struct Run {
     pub coder: Coder,
     pub table: Table,
     pub at: usize,
+    pub revisits: u64,
 }
 
 // An expected pel with no shift: most are such.
@@ -48,7 +50,7 @@ pub fn still_pel(coder: Coder, e: u8, q: u64) -> Pel
     Pel {
         coder: next,
         entry: e,
-        moved: false,
+        revisited: false,
         settled: 0,
         first: 0,
         second: 0,
@@ -63,7 +65,7 @@ pub fn moved_pel(v: Put, entry: u8) -> Pel
     Pel {
         coder: next,
         entry: entry,
-        moved: true,
+        revisited: true,
         settled: v.settled,
         first: v.first,
         second: v.second,
@@ -122,13 +124,16 @@ fn run_end(row: &[u8], above: &[u8], width: usize, x: usize, known: usize) -> us
 pub fn write_row(row: &[u8], above: &[u8], width: usize, start: Run, out: &mut [u8]) -> Run
     requires { ⌜ (width ≤ maxWidth) × (width ≤ 8 * length (now row)) × (width ≤ 8 * length (now above)) × (1 ≤ width)
         × LawfulTable (start .table .entries) × Ready (lift (start .coder) [])
-        × (start .coder .interval .count + 12 * maxWidth ≤ maxShifts) × (start .at + 2 * maxWidth ≤ farthest) ⌝ }
+        × (start .coder .interval .count + 12 * maxWidth ≤ maxShifts) × (start .at + 2 * maxWidth ≤ farthest)
+        × (start .revisits ≤ start .coder .interval .count) ⌝ }
     ensures { λ r. ⌜ RowDone width (pelsTo (now (above .entry)) width) (now (row .entry)) (start .table .entries)
-        (start .coder) (now (out .entry)) (start .at) (r .table .entries) (r .coder) (now (out .exit)) (r .at) ⌝ }
+        (start .coder) (now (out .entry)) (start .at) (start .revisits) (r .table .entries) (r .coder)
+        (now (out .exit)) (r .at) (r .revisits) ⌝ }
 {
     let mut coder = start.coder;
     let mut table = start.table;
     let mut at = start.at;
+    let mut revisits = start.revisits;
     let mut window = Window::start(above, width);
     let mut end: usize = 0;
     let mut x: usize = 0;
@@ -151,9 +156,10 @@ pub fn write_row(row: &[u8], above: &[u8], width: usize, start: Run, out: &mut [
         let e = table.entries[cx];
         let v = put_pel(coder, e, p == e % 2);
         coder = v.coder;
-        if v.moved {
+        if v.revisited {
             table.entries[cx] = v.entry;
             at = store::put_two(out, at, v.settled, v.first, v.second);
+            revisits += 1;
         }
         window = window.slide(above, width, x, p);
         x += 1;
@@ -162,5 +168,6 @@ pub fn write_row(row: &[u8], above: &[u8], width: usize, start: Run, out: &mut [
         coder: coder,
         table: table,
         at: at,
+        revisits: revisits,
     }
 }

@@ -77,7 +77,7 @@ module _ (R : Reader) where
         (l .last (sound-is d k ∙ h))
 
     by-number : (m : ℕ) → number (R .finds) d c ≡ m
-        → step R d c ≡ stepOf (unless m d (done (e .length) (e .shifts) (changed d k (e .page) (e .learned))))
+        → step R d c ≡ stepOf (unless m d (done e (changed d k (e .page) (e .learned))))
         (unlessLent m (lentTo c) (e .lent))
     unfolding outcome lent
     by-number m f = rw f

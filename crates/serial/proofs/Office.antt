@@ -37,7 +37,7 @@ abbrev pub refusing : ℕ → Call → Output
 refusing n c = record { answer = refusedAs n; lent = lentAfter n (lentTo c) }
 
 abbrev pub doing : Effect → Output
-doing e = record { answer = doneAs (e .length) (e .shifts); lent = e .lent }
+doing e = record { answer = doneAs e; lent = e .lent }
 
 -- refused by its number, or done
 unfoldable pub decide : ℕ → Call → Output → DeskCell → Result Output DeskCell

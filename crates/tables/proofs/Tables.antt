@@ -100,7 +100,7 @@ module _ (p : Parts) (w : Whole p) (k : Key) where
   pub drop-done : (x : Reply) (place : Found) (next : Book) (learned : List (List ℕ)) → number bandOfCode (deskOf p)
       (drops k) ≡ 0
       → place ≡ tableFound (deskOf p) k → PlacePut (p .book) (p .learned) place freePlace next learned
-      → x ≡ doneBy 0 0 next
+      → x ≡ doneBy 0 0 0 next
       → Serves p (drops k) (x .answer) (partsOf (x .book) (p .working) (p .rows) learned) []
   unfolding effect changed pagesAfter placesAfter
   drop-done x place next learned e t q a =
@@ -111,7 +111,7 @@ module _ (p : Parts) (w : Whole p) (k : Key) where
 
   pub look-done : (out after : List ℕ) (x : Reply) (i : ℕ) → tableFound (deskOf p) k ≡ At i
       → number bandOfCode (deskOf p) (looks k out) ≡ 0
-      → x ≡ doneBy contexts 0 (p .book) → after ≡ inFront (getD (p .learned) i []) out
+      → x ≡ doneBy contexts 0 0 (p .book) → after ≡ inFront (getD (p .learned) i []) out
       → Serves p (looks k out) (x .answer) (partsOf (x .book) (p .working) (p .rows) (p .learned)) after
   unfolding effect changed pagesAfter placesAfter stand
   look-done out after x i t e a l =

@@ -46,7 +46,7 @@ pub fn forget<'a>(
         return parts::refused(11, book);
     }
     let next = parts::clear_place(book, learned, place);
-    parts::done(0, 0, next)
+    parts::done(0, 0, 0, next)
 }
 
 // A table's bytes in the front of a buffer, the rest kept.
@@ -90,5 +90,5 @@ pub fn look<'a, 'b>(
     }
     let table = learned[i];
     show_table(table, out);
-    parts::done(CONTEXTS as u64, 0, book)
+    parts::done(CONTEXTS as u64, 0, 0, book)
 }

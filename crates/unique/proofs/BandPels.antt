@@ -1,10 +1,8 @@
--- The pels of a band: as many as it has, each 0 or 1, and told by its code. Assumes nothing.
-use mathlib.Core.Path.{_≡_, sym, ap, ap₂, _∙_}
-use Prim.Native.Nat.{ℕ, zero, suc, _+_, _-_, _*_, _≤_}
-use native.Mathlib.Nat.{zero-mul, suc-mul}
+-- The pels of a band: each 0 or 1, and told by its code. Assumes nothing.
+use mathlib.Core.Path.{_≡_, sym, ap, _∙_}
+use Prim.Native.Nat.{ℕ, zero, suc, _-_, _*_, _≤_}
 use native.Mathlib.Omega.{arith}
 use mathlib.Core.List.{List, [], _∷_, _++_}
-use lib.ListN.{length, length-append}
 use Rattle.coder.proofs.Writing.{AllPels}
 use Rattle.coder.specs.Writing.{bandCode}
 use Rattle.coder.specs.Reading.{readPels}
@@ -13,8 +11,9 @@ use Rattle.coder.specs.Page.{Page, size, sense, entryAt}
 use Rattle.estimate.proofs.LawfulEntries.{Sized, row-sized}
 use Rattle.exact.specs.Sight.{opened}
 use Rattle.template.specs.Pels.{pelsTo, pelAt, rowAt, bandTo}
-use Rattle.template.proofs.Sliding.{pel-bit, length-pels}
+use Rattle.template.proofs.Sliding.{pel-bit}
 use Rattle.band.specs.Band.{qScheme, qWriter, qPage, pageAt, written}
+use Rattle.band.proofs.Revisits.{band-size}
 use Rattle.unique.specs.QCoder.{qReader}
 use Rattle.unique.proofs.QCoder.{qCoder}
 
@@ -33,13 +32,6 @@ unfolding bandTo
 band-pels width band zero = tt
 band-pels width band (suc n) = pels-append (bandTo width band n) (pelsTo (rowAt width band n) width)
     (band-pels width band n) (row-pels (rowAt width band n) width)
-
-pub band-size : (width : ℕ) (band : List ℕ) (n : ℕ) → length (bandTo width band n) ≡ n * width
-unfolding bandTo
-band-size width band zero = sym (zero-mul width)
-band-size width band (suc n) =
-    length-append (bandTo width band n) (pelsTo (rowAt width band n) width) ∙ ap₂ (λ (j k : ℕ). j + k)
-    (band-size width band n) (length-pels (rowAt width band n) width) ∙ sym (suc-mul n width)
 
 -- ---- any band that was written as the code is the one that is read
 module _ (width : ℕ) where

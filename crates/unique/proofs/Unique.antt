@@ -17,7 +17,8 @@ use Rattle.template.specs.Pels.{rowBytes, pelAt, pelsTo, rowAt, bandTo, rowPadd
 use Rattle.template.proofs.Sliding.{pels-at}
 use Rattle.ground.proofs.Bools.{both}
 use Rattle.band.specs.Band.{written, IsBand}
-use Rattle.unique.proofs.BandPels.{band-size, same-pels}
+use Rattle.band.proofs.Revisits.{band-size}
+use Rattle.unique.proofs.BandPels.{same-pels}
 
 -- ---- a byte is its eight bits
 up : (x y : ℕ) → x / 2 ≡ y / 2 → x % 2 ≡ y % 2 → x ≡ y

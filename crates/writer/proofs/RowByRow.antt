@@ -11,6 +11,7 @@ use lib.Dec.{leb, eqb}
 use Rattle.ground.proofs.Bools.{both}
 use Rattle.coder.specs.Writing.{Stage, step, after}
 use Rattle.coder.proofs.Writing.{after-append}
+use Rattle.coder.proofs.Revisits.{revisits-shifts}
 use Rattle.coder.specs.Page.{Page, size, sense}
 use borrow.Author.Tests.{leb-true}
 use Rattle.estimate.specs.declared.Table.{Table}
@@ -29,34 +30,39 @@ use Rattle.template.specs.Pels.{pelsTo, rowAt, rowBytes, bandTo}
 use Rattle.row.specs.declared.Run.{Run}
 use Rattle.limits.specs.Limits.{maxWidth, maxRows, maxCode, lastBytes, maxBand}
 use Rattle.band.specs.Band.{qScheme, qWriter, qPage, pageAt, Written, written, lastRow, hasRoom}
+use Rattle.band.proofs.Revisits.{q-counts}
 use Rattle.writer.specs.Wrote.{wroteAnswer, wroteOut}
 use Rattle.row.specs.WrittenRow.{stageOf, through, RowDone}
 use Rattle.row.proofs.WrittenRow.{lift-behind, page-within}
 use Rattle.writer.specs.RowByRow.{BandAt, opened}
 
 module _ (width : ℕ) where
+  -- a stage with bytes before its own
+  abbrev pub put-behind : List ℕ → Stage (qPage width) qWriter → Stage (qPage width) qWriter
+  put-behind xs s = stageOf width (s .model) (behind xs (s .writer)) (s .revisits)
+
   -- the bytes before stay before
-  pub behind-through : (ps : List ℕ) (m : Page) (xs : List ℕ) (w : Registers)
-      → through width (stageOf width m (behind xs w)) ps ≡ stageOf width (through width (stageOf width m w) ps .model)
-      (behind xs (through width (stageOf width m w) ps .writer))
+  pub behind-through : (ps : List ℕ) (m : Page) (xs : List ℕ) (w : Registers) (n : ℕ)
+      → through width (stageOf width m (behind xs w) n) ps ≡ put-behind xs (through width (stageOf width m w n) ps)
   unfolding after
-  behind-through [] m xs w = refl
-  behind-through (p ∷ ps) m xs w =
+  behind-through [] m xs w n = refl
+  behind-through (p ∷ ps) m xs w n =
       let q : ℕ = size qScheme width m in
       let e : Bool = eqb p (sense qScheme width m) in
-      let s : Stage (qPage width) qWriter = step (qPage width) qWriter (stageOf width m w) p in
-      ap (λ (v : Registers). through width (stageOf width (s .model) v) ps) (behind-pel (decision q e) xs w)
-      ∙ behind-through ps (s .model) xs (s .writer)
+      let s : Stage (qPage width) qWriter = step (qPage width) qWriter (stageOf width m w n) p in
+      ap (λ (v : Registers). through width (stageOf width (s .model) v (s .revisits)) ps)
+      (behind-pel (decision q e) xs w)
+      ∙ behind-through ps (s .model) xs (s .writer) (s .revisits)
 
   -- ---- rows
   module _ (last band t₀ out₀ : List ℕ) where
     band-start : (c : Coder) → lift c [] ≡ start → LawfulTable t₀ → BandAt width last band t₀ out₀ last
-        t₀ c out₀ 0 0
+        t₀ c out₀ 0 0 0
     unfolding bandTo after stores
     band-start c e l =
         record {
           settled = [];
-          stage = ap (stageOf width (pageAt width t₀ last)) (sym e);
+          stage = ap (λ (w : Registers). stageOf width (pageAt width t₀ last) w 0) (sym e);
           stored = refl;
           place = refl;
           few = omega arith;
@@ -66,31 +72,30 @@ module _ (width : ℕ) where
         }
 
     -- one row more
-    module _ (above t : List ℕ) (c : Coder) (out : List ℕ) (at y : ℕ) (row t′ : List ℕ) (c′ : Coder) (out′ : List ℕ)
-        (at′ : ℕ) (b : BandAt width last band t₀ out₀ above t c out at y)
-        (some : 1 ≤ width) (e : row ≡ rowAt width band y) (r : RowDone width (pelsTo above width) row t c out at t′ c′
-        out′ at′) where
+    module _ (above t : List ℕ) (c : Coder) (out : List ℕ) (at n y : ℕ) (row t′ : List ℕ) (c′ : Coder)
+        (out′ : List ℕ) (at′ n′ : ℕ) (b : BandAt width last band t₀ out₀ above t c out at n y)
+        (some : 1 ≤ width) (e : row ≡ rowAt width band y) (r : RowDone width (pelsTo above width) row t c out at n t′
+        c′ out′ at′ n′) where
       abbrev under : Page
       under = record { table = t; above = pelsTo above width; this = [] }
 
       abbrev then : Page
       then = record { table = t′; above = pelsTo row width; this = [] }
 
-      from-row : through width (stageOf width under (lift c [])) (pelsTo row width) ≡ stageOf width then
-          (lift c′ (r .settled))
-      from-row = subst (λ (m : Page). through width (stageOf width m (lift c [])) (pelsTo row width) ≡ stageOf
-          width then (lift c′ (r .settled))) (page-within width t (pelsTo above width) [] some) (r .stage)
+      from-row : through width (stageOf width under (lift c []) n) (pelsTo row width) ≡ stageOf width then
+          (lift c′ (r .settled)) n′
+      from-row = subst (λ (m : Page). through width (stageOf width m (lift c []) n) (pelsTo row width) ≡ stageOf
+          width then (lift c′ (r .settled)) n′) (page-within width t (pelsTo above width) [] some) (r .stage)
 
-      from-band : through width (stageOf width under (lift c (b .settled))) (pelsTo row width) ≡ stageOf width then
-          (lift c′ (b .settled ++ r .settled))
+      from-band : through width (stageOf width under (lift c (b .settled)) n) (pelsTo row width) ≡ stageOf width then
+          (lift c′ (b .settled ++ r .settled)) n′
       from-band =
-          ap (λ (w : Registers). through width (stageOf width under w) (pelsTo row width)) (lift-behind c (b .settled))
-          ∙ behind-through (pelsTo row width) under (b .settled) (lift c [])
-          ∙ ap (λ (s : Stage (qPage width) qWriter). stageOf width (s .model) (behind (b .settled) (s .writer)))
-          from-row
+          ap (λ (w : Registers). through width (stageOf width under w n) (pelsTo row width))
+          (lift-behind c (b .settled))
+          ∙ behind-through (pelsTo row width) under (b .settled) (lift c []) n ∙ ap (put-behind (b .settled)) from-row
 
       next-stage : through width (opened width last band t₀ out₀) (bandTo width band (suc y)) ≡ stageOf width then
-          (lift c′ (b .settled ++ r .settled))
+          (lift c′ (b .settled ++ r .settled)) n′
       unfolding bandTo
       next-stage =
           after-append (qPage width) qWriter (bandTo width band y) (pelsTo (rowAt width band y) width)
@@ -98,9 +103,9 @@ module _ (width : ℕ) where
           ∙ ap₂ (λ (s : Stage (qPage width) qWriter) (l : List ℕ). through width s (pelsTo l width)) (b .stage) (sym e)
           ∙ from-band
 
-      band-again : width ≤ maxWidth → BandAt width last band t₀ out₀ row t′ c′ out′ at′ (suc y)
+      band-again : width ≤ maxWidth → BandAt width last band t₀ out₀ row t′ c′ out′ at′ n′ (suc y)
       band-again k =
-          let n : length (b .settled ++ r .settled) ≡ length (b .settled) + length (r .settled) =
+          let l : length (b .settled ++ r .settled) ≡ length (b .settled) + length (r .settled) =
           length-append (b .settled) (r .settled) in
           record {
             settled = b .settled ++ r .settled;
@@ -126,8 +131,8 @@ written-last : (width rows : ℕ) (t last band : List ℕ) → written width row
 unfolding written
 written-last width rows t last band = refl
 
-module _ (width rows : ℕ) (last band t₀ out₀ above t : List ℕ) (c : Coder) (out : List ℕ) (at : ℕ)
-    (b : BandAt width last band t₀ out₀ above t c out at rows)
+module _ (width rows : ℕ) (last band t₀ out₀ above t : List ℕ) (c : Coder) (out : List ℕ) (at n : ℕ)
+    (b : BandAt width last band t₀ out₀ above t c out at n rows)
     (lasts : List ℕ) (e : lasts ≡ ended (finish (lift c []))) where
   -- every byte, the zero before the code first
   abbrev pub all : List ℕ
@@ -141,6 +146,10 @@ module _ (width rows : ℕ) (last band t₀ out₀ above t : List ℕ) (c : Code
   end-shifts : written width rows t₀ last band .shifts ≡ c .interval .count
   unfolding written
   end-shifts = ap (λ (s : Stage (qPage width) qWriter). s .writer .interval .count) (b .stage)
+
+  end-revisits : written width rows t₀ last band .revisits ≡ n
+  unfolding written
+  end-revisits = ap (λ (s : Stage (qPage width) qWriter). s .revisits) (b .stage)
 
   end-table : written width rows t₀ last band .table ≡ t
   unfolding written
@@ -172,6 +181,7 @@ module _ (width rows : ℕ) (last band t₀ out₀ above t : List ℕ) (c : Code
           room = true;
           length = n₁ - 1;
           shifts = c .interval .count;
+          revisits = n;
           table = record { entries = t };
           last = row;
         } ≡ wroteAnswer W table last out₀) × (out₁ ≡ wroteOut W out₀)
@@ -182,6 +192,7 @@ module _ (width rows : ℕ) (last band t₀ out₀ above t : List ℕ) (c : Code
             room = true;
             length = end-length i;
             shifts = sym end-shifts i;
+            revisits = sym end-revisits i;
             table = record { entries = sym end-table i };
             last = last-is r i;
           }),
@@ -197,7 +208,8 @@ module _ (width rows : ℕ) (last band t₀ out₀ above t : List ℕ) (c : Code
         left-of h = both (leb (n₁ - 1) (length out₁)) (leb (n₁ - 1) maxCode) h .0
 
     pub without-room : (leb (n₁ - 1) (length out₁) && leb (n₁ - 1) maxCode) ≡ false → (table : Table)
-        → (record { room = false; length = 0; shifts = 0; table = table; last = last } ≡ wroteAnswer W table last out₀)
+        → (record { room = false; length = 0; shifts = 0; revisits = 0; table = table; last = last }
+        ≡ wroteAnswer W table last out₀)
         × (cleared out₁ ≡ wroteOut W out₀)
     unfolding wroteAnswer wroteOut cleared
     without-room h table = let k : hasRoom (W .code) out₀ ≡ false = room-is ∙ h in (rw k, rw (k, end-same))
@@ -264,15 +276,15 @@ part-wide width bytes′ n m band is e h = simp (length-take, length-drop) (omeg
 
 -- the first row, under the page's last
 pub band-first : (width : ℕ) (last band t₀ out₀ : List ℕ) (bytes′ : ℕ) (c : Coder) (t′ : List ℕ) (c′ : Coder)
-    (out′ : List ℕ) (at′ : ℕ)
+    (out′ : List ℕ) (at′ n′ : ℕ)
     → bytes′ ≡ rowBytes width → 1 ≤ width → width ≤ maxWidth → lift c [] ≡ start → LawfulTable t₀
-    → RowDone width (pelsTo last width) (take bytes′ band) t₀ c out₀ 0 t′ c′ out′ at′ → BandAt width last band t₀ out₀
-    (rowAt width band 0) t′ c′ out′ at′ 1
-band-first width last band t₀ out₀ bytes′ c t′ c′ out′ at′ is h k s l r =
+    → RowDone width (pelsTo last width) (take bytes′ band) t₀ c out₀ 0 0 t′ c′ out′ at′ n′
+    → BandAt width last band t₀ out₀ (rowAt width band 0) t′ c′ out′ at′ n′ 1
+band-first width last band t₀ out₀ bytes′ c t′ c′ out′ at′ n′ is h k s l r =
     let e : take bytes′ band ≡ rowAt width band 0 = row-first width band bytes′ is in
-    band-again width last band t₀ out₀ last t₀ c out₀ 0 0 (rowAt width band 0) t′ c′ out′ at′
+    band-again width last band t₀ out₀ last t₀ c out₀ 0 0 0 (rowAt width band 0) t′ c′ out′ at′ n′
     (band-start width last band t₀ out₀ c s l) h refl
-    (subst (λ (x : List ℕ). RowDone width (pelsTo last width) x t₀ c out₀ 0 t′ c′ out′ at′) e r) k
+    (subst (λ (x : List ℕ). RowDone width (pelsTo last width) x t₀ c out₀ 0 0 t′ c′ out′ at′ n′) e r) k
 
 pub start-count : (c : Coder) → lift c [] ≡ start → c .interval .count ≡ 0
 start-count c e = ap (λ (w : Registers). w .interval .count) e
@@ -281,19 +293,26 @@ start-count c e = ap (λ (w : Registers). w .interval .count) e
 abbrev pub RowsKeep : ℕ → List ℕ → Run → List ℕ → Run → List ℕ → ℕ → Type 0
 RowsKeep width band run₀ out₀ run out y =
     (last t o : List ℕ) → BandAt width last band t o (rowAt width band 0) (run₀ .table .entries) (run₀ .coder) out₀
-    (run₀ .at) 1
-    → BandAt width last band t o (rowAt width band (y - 1)) (run .table .entries) (run .coder) out (run .at) y
+    (run₀ .at) (run₀ .revisits) 1
+    → BandAt width last band t o (rowAt width band (y - 1)) (run .table .entries) (run .coder) out (run .at)
+    (run .revisits) y
 
-pub band-length : (width : ℕ) (last band t₀ out₀ above t : List ℕ) (c : Coder) (out : List ℕ) (at y : ℕ)
-    → BandAt width last band t₀ out₀ above t c out at y → length out ≡ length out₀
-band-length width last band t₀ out₀ above t c out at y b = ap length (b .stored) ∙ length-stores out₀ 0 (b .settled)
+-- no more pels were revisited than there were shifts
+pub band-revisits : (width : ℕ) (last band t₀ out₀ above t : List ℕ) (c : Coder) (out : List ℕ) (at n y : ℕ)
+    → BandAt width last band t₀ out₀ above t c out at n y → n ≤ c .interval .count
+band-revisits width last band t₀ out₀ above t c out at n y b =
+    subst (λ (s : Stage (qPage width) qWriter). s .revisits ≤ s .writer .interval .count) (b .stage)
+    (revisits-shifts (qPage width) qWriter q-counts (bandTo width band y) (opened width last band t₀ out₀) (omega arith))
+
+pub band-length : (width : ℕ) (last band t₀ out₀ above t : List ℕ) (c : Coder) (out : List ℕ) (at n y : ℕ)
+    → BandAt width last band t₀ out₀ above t c out at n y → length out ≡ length out₀
+band-length width last band t₀ out₀ above t c out at n y b = ap length (b .stored) ∙ length-stores out₀ 0 (b .settled)
 
 -- the row n is written, under the row before it
 abbrev pub NextDone : ℕ → List ℕ → Run → List ℕ → Run → List ℕ → ℕ → Type 0
 NextDone width band run out run′ out′ n =
     RowDone width (pelsTo (rowAt width band (n - 1)) width) (rowAt width band n) (run .table .entries) (run .coder)
-    out (run .at)
-    (run′ .table .entries) (run′ .coder) out′ (run′ .at)
+    out (run .at) (run .revisits) (run′ .table .entries) (run′ .coder) out′ (run′ .at) (run′ .revisits)
 
 -- one row more: k is the row that is due
 pub keep-next : (width : ℕ) (band : List ℕ) (run₀ run run′ : Run) (out₀ out out′ : List ℕ) (y k : ℕ) → 1 ≤ width
@@ -302,7 +321,7 @@ pub keep-next : (width : ℕ) (band : List ℕ) (run₀ run run′ : Run) (out�
     → RowsKeep width band run₀ out₀ run′ out′ (y + 1)
 keep-next width band run₀ run run′ out₀ out out′ y k h w j r d e last t o b =
     subst₂ (λ (n m : ℕ). BandAt width last band t o (rowAt width band n) (run′ .table .entries) (run′ .coder) out′
-    (run′ .at) m) (omega arith) (sym (add-one y))
-    (band-again width last band t o (rowAt width band (y - 1)) (run .table .entries) (run .coder) out (run .at) y
-    (rowAt width band y) (run′ .table .entries) (run′ .coder) out′ (run′ .at)
+    (run′ .at) (run′ .revisits) m) (omega arith) (sym (add-one y))
+    (band-again width last band t o (rowAt width band (y - 1)) (run .table .entries) (run .coder) out (run .at)
+    (run .revisits) y (rowAt width band y) (run′ .table .entries) (run′ .coder) out′ (run′ .at) (run′ .revisits)
     (r last t o b) h refl (subst (NextDone width band run out run′ out′) e d) w)

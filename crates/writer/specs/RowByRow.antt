@@ -18,13 +18,13 @@ use Rattle.row.specs.WrittenRow.{stageOf, through}
 module _ (width : ℕ) where
   module _ (last band t₀ out₀ : List ℕ) where
     abbrev pub opened : Stage (qPage width) qWriter
-    opened = stageOf width (pageAt width t₀ last) start
+    opened = stageOf width (pageAt width t₀ last) start 0
 
     -- y rows are written; `above` is the last of them
-    pub record BandAt (above t : List ℕ) (c : Coder) (out : List ℕ) (at y : ℕ) : Type 0 where
+    pub record BandAt (above t : List ℕ) (c : Coder) (out : List ℕ) (at n y : ℕ) : Type 0 where
       pub settled : List ℕ
       pub stage : through width opened (bandTo width band y) ≡ stageOf width
-          (record { table = t; above = pelsTo above width; this = [] }) (lift c settled)
+          (record { table = t; above = pelsTo above width; this = [] }) (lift c settled) n
       pub stored : out ≡ stores out₀ 0 settled
       pub place : at ≡ length settled
       pub few : length settled ≤ 2 * maxWidth * y

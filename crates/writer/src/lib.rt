@@ -20,11 +20,12 @@ use limits::ROW;
 use octets::Coder;
 use row::Run;
 
-// What writing a band gives: whether there was room, n, S, and the table and last row after it.
+// What writing a band gives: whether there was room, n, S, the pels revisited, and the table and last row after it.
 pub struct Wrote {
     pub room: bool,
     pub length: usize,
     pub shifts: u64,
+    pub revisits: u64,
     pub table: Table,
     pub last: [u8; ROW],
 }
@@ -34,10 +35,11 @@ pub fn write_next(pels: &[u8], y: usize, width: usize, run: Run, out: &mut [u8])
     requires { ⌜ (1 ≤ width) × (width ≤ maxWidth) × (1 ≤ y) × (y < maxRows)
         × (y * rowBytes width + rowBytes width ≤ length (now pels))
         × LawfulTable (run .table .entries) × Ready (lift (run .coder) [])
-        × (run .coder .interval .count + 12 * maxWidth ≤ maxShifts) × (run .at + 2 * maxWidth ≤ farthest) ⌝ }
+        × (run .coder .interval .count + 12 * maxWidth ≤ maxShifts) × (run .at + 2 * maxWidth ≤ farthest)
+        × (run .revisits ≤ run .coder .interval .count) ⌝ }
     ensures { λ r. ⌜ RowDone width (pelsTo (rowAt width (now (pels .entry)) (y - 1)) width)
         (rowAt width (now (pels .entry)) y) (run .table .entries) (run .coder) (now (out .entry)) (run .at)
-        (r .table .entries) (r .coder) (now (out .exit)) (r .at) ⌝ }
+        (run .revisits) (r .table .entries) (r .coder) (now (out .exit)) (r .at) (r .revisits) ⌝ }
 {
     let bytes = template::row_bytes(width);
     let from = y * bytes;
@@ -59,7 +61,8 @@ pub fn write_rows(
         × (length (now pels) ≡ rows * rowBytes width)
         × LawfulTable (table .entries) ⌝ }
     ensures { λ r. ⌜ BandAt width last (now (pels .entry)) (table .entries) (now (out .entry))
-        (rowAt width (now (pels .entry)) (rows - 1)) (r .table .entries) (r .coder) (now (out .exit)) (r .at) rows ⌝ }
+        (rowAt width (now (pels .entry)) (rows - 1)) (r .table .entries) (r .coder) (now (out .exit)) (r .at)
+        (r .revisits) rows ⌝ }
 {
     let bytes = template::row_bytes(width);
     let coder = Coder::start();
@@ -67,6 +70,7 @@ pub fn write_rows(
         coder: coder,
         table: table,
         at: 0,
+        revisits: 0,
     };
     let mut run = row::write_row(&pels[..bytes], &last, width, begun, out);
     let mut y: usize = 1;
@@ -131,6 +135,7 @@ pub fn write_band(
             room: true,
             length: n,
             shifts: shifts,
+            revisits: run.revisits,
             table: after,
             last: row,
         };
@@ -140,6 +145,7 @@ pub fn write_band(
         room: false,
         length: 0,
         shifts: 0,
+        revisits: 0,
         table: table,
         last: last,
     }

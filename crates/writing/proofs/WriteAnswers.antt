@@ -33,12 +33,14 @@ withRoom w =
       room = true;
       length = length (w .code);
       shifts = w .shifts;
+      revisits = w .revisits;
       table = record { entries = w .table };
       last = w .last;
     }
 
 abbrev withoutRoom : Table → List ℕ → Wrote
-withoutRoom table last = record { room = false; length = 0; shifts = 0; table = table; last = last }
+withoutRoom table last =
+    record { room = false; length = 0; shifts = 0; revisits = 0; table = table; last = last }
 
 by-room : (y : Bool) (a b r : Wrote) → r ≡ cond y a b → a .room ≡ true → b .room ≡ false → y ≡ r .room
 by-room true a b r e p q = sym (ap (λ (x : Wrote). x .room) e ∙ p)

@@ -56,5 +56,5 @@ pub fn write<'a, 'b, 'c>(
     }
     let row = wrote.last;
     let next = parts::put_page(book, working, rows, i, page, wrote.table, row);
-    parts::done(wrote.length as u64, wrote.shifts, next)
+    parts::done(wrote.length as u64, wrote.shifts, wrote.revisits, next)
 }

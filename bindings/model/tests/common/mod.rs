@@ -2,7 +2,7 @@
 
 #![allow(dead_code)] // no test uses all of it
 
-use siftpebble_model::band::{self, State, MAX_CODE};
+use siftpebble_model::band::{self, Band, State, MAX_CODE};
 use siftpebble_model::sample;
 use siftpebble_model::table::FRESH;
 
@@ -11,13 +11,34 @@ pub fn new_page() -> State {
     State { table: FRESH, last }
 }
 
-/// Writes a band; answers the code, S and the state after it.
-pub fn write(from: &State, width: usize, pels: &[u8]) -> (Vec<u8>, u64, State) {
+/// Writes a band; answers the code, the answer and the state after it.
+pub fn write_band(from: &State, width: usize, pels: &[u8]) -> (Vec<u8>, Band, State) {
     let mut state = from.clone();
     let mut out = vec![0; MAX_CODE];
     let band = band::write(&mut state, width, pels, &mut out, ()).expect("room");
     out.truncate(band.length);
-    (out, band.shifts, state)
+    (out, band, state)
+}
+
+/// The same with no more than S of the answer.
+pub fn write(from: &State, width: usize, pels: &[u8]) -> (Vec<u8>, u64, State) {
+    let (code, band, state) = write_band(from, width, pels);
+    (code, band.shifts, state)
+}
+
+/// The context by its definition.
+pub fn context(above: &[u8], row: &[u8], width: usize, x: usize) -> usize {
+    let pel = |line: &[u8], shift: isize| match x.checked_add_signed(shift) {
+        Some(at) if at < width => usize::from(line[at / 8] >> (7 - at % 8) & 1),
+        _ => 0,
+    };
+    pel(row, -1)
+        + 2 * pel(row, -2)
+        + 4 * pel(above, 2)
+        + 8 * pel(above, 1)
+        + 16 * pel(above, 0)
+        + 32 * pel(above, -1)
+        + 64 * pel(above, -2)
 }
 
 /// All bands of a size.

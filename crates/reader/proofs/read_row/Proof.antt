@@ -2,7 +2,8 @@
 -- run reaches as far as it is known to. Assumes nothing.
 use mathlib.Core.Path.{_≡_, sym, ap, _∙_, subst}
 use mathlib.Core.Logic.{⊎-elim}
-use mathlib.Core.Bool.{_&&_}
+use mathlib.Core.Bool.{Bool, _&&_}
+use Rattle.coder.specs.Writing.{counted}
 use Prim.Native.Nat.{ℕ, _+_, _-_, _*_, _≤_}
 use native.Mathlib.Numerals.{add-one}
 use native.Mathlib.Omega.{arith}
@@ -20,7 +21,7 @@ use Rattle.template.proofs.Packing.{row-none}
 use Rattle.row.specs.WrittenRow.{bytesOf}
 use Rattle.row.proofs.WrittenRow.{pelled-kept}
 use Rattle.sight.proofs.Views.{told-bit}
-use Rattle.reader.proofs.ReadRow.{RowRead, read-start, read-turn, read-window, read-room}
+use Rattle.reader.proofs.ReadRow.{RowRead, read-start, read-turn, read-window, read-room, read-revisits}
 use Rattle.reader.specs.ReadRow.{matches}
 use Rattle.reader.proofs.ReadRuns.{told-so, match-none, read-run}
 use Rattle.reader.proofs.RowRead.{line-read}
@@ -29,13 +30,15 @@ use Rattle.reader.proofs.read_row.Tie as tie
 use Prim.Native.Nat.{_<_}
 
 abbrev Inv-loop : tie.InvT-loop
-Inv-loop code above width coder₀ table₀ at₀ good₀ view₀ window₀ row₀ end₀ x₀ coder table at good view window row end x =
-    RowRead width (pelsTo above width) (table₀ .entries) coder₀ code at₀ good₀ view₀
-    row (table .entries) coder window view at good x
+Inv-loop code above width coder₀ table₀ at₀ revisits₀ good₀ view₀ window₀ row₀ end₀ x₀ coder table at revisits good view
+    window row end x =
+    RowRead width (pelsTo above width) (table₀ .entries) coder₀ code at₀ revisits₀ good₀ view₀
+    row (table .entries) coder window view at revisits good x
     × (end ≤ width) × Under (pelsTo above width) x end
 
 abbrev μ-loop : tie.MeasureT-loop
-μ-loop code above width coder₀ table₀ at₀ good₀ view₀ window₀ row₀ end₀ x₀ coder table at good view window row end x =
+μ-loop code above width coder₀ table₀ at₀ revisits₀ good₀ view₀ window₀ row₀ end₀ x₀ coder table at revisits good view
+    window row end x =
     width - x
 
 -- ---- the stations of a row: each is a place passed on the way, seen from a later one
@@ -76,7 +79,7 @@ pel-turn c = turn (looked c)
 edge : (c : tie.In-loop Inv-loop μ-loop) → let w = c .before .loop .window in (w .above < 32) × (w .this < 4)
 edge c =
     let a = begin₁ c .args in
-    read-window _ _ _ _ _ _ _ _ _ _ _ _ _ _ _ _ (pels-bits (a .above .now) (a .width)) (c .before .loop .inv .0)
+    read-window _ _ _ _ _ _ _ _ _ _ _ _ _ _ _ _ _ _ (pels-bits (a .above .now) (a .width)) (c .before .loop .inv .0)
 
 -- ---- the answers
 start-requires : tie.Need-start-requires Inv-loop μ-loop
@@ -85,7 +88,7 @@ start-requires c κs = begin c .pre .1
 loop-holds : tie.Need-loop-holds Inv-loop μ-loop
 loop-holds c =
     let p = begin (c .before) .pre in (
-      read-start _ _ _ _ _ _ _ _ _ (c .start .ensures) (p .3) (p .4) row-none (p .7) (p .8) (p .9),
+      read-start _ _ _ _ _ _ _ _ _ _ (c .start .ensures) (p .3) (p .4) row-none (p .8) (p .9) (p .10),
       omega arith,
       under-none _ _ _ (omega arith),
     )
@@ -183,7 +186,7 @@ loop-again c =
     let so = r .before .starts-run .ensures (r .if1 .taken) in
     rw (c .before .before .still .ensures, c .before .still2 .ensures, c .white2 .ensures) (
       read-run (a .width) (pelsTo (a .above .now) (a .width)) (s .table .entries) (s .coder) (a .code .now)
-          (s .at) (s .good) (s .view) (l .row) (l .table .entries) (l .at) (l .good) (so .0)
+          (s .at) (s .revisits) (s .good) (s .view) (l .row) (l .table .entries) (l .at) (l .revisits) (l .good) (so .0)
           (pels-bits (a .above .now) (a .width)) (begin₁ t .pre .0) (l .coder) (l .window) (l .view) (l .x) (u .result)
           (n .result) _ (l .inv .0) (so .1) (e .1) (e .2) (e .0) (n .ensures .0)
           (ap (λ (z : ℕ). n .result * z) (q .ensures)) (omega (arith, n .ensures .1, m .0))
@@ -221,6 +224,13 @@ add-at c =
     let p = begin₁ t .pre in
     omega (arith, i .place, i .few, i .passed, p .0, p .6, told v .read-pel .ensures .pelled .few)
 
+add-revisits : tie.Need-add-revisits Inv-loop μ-loop
+add-revisits c =
+    let t = pel-turn (c .before .before .before) in
+    let i = t .before .loop .inv .0 in
+    let p = begin₁ t .pre in
+    omega (arith, read-revisits _ _ _ _ _ _ _ _ _ _ _ _ _ _ _ _ _ _ i (p .7), i .count, i .passed, p .0, p .5)
+
 slide-requires : tie.Need-slide-requires Inv-loop μ-loop
 slide-requires c κs =
     let t = pel-turn (c .before) in
@@ -245,8 +255,8 @@ add-row c =
     let t = pel-turn v in
     let l = t .before .loop in
     let r = told v .read-pel in
-    let h = read-room _ _ _ _ _ _ _ _ (l .row) (l .table .entries) (l .coder) (l .window) (l .view) (l .at) (l .good)
-    (l .x) (r .result .p) (l .inv .0) (omega (arith, t .loop-test .taken, begin₁ t .pre .0))
+    let h = read-room _ _ _ _ _ _ _ _ _ (l .row) (l .table .entries) (l .coder) (l .window) (l .view) (l .at)
+    (l .revisits) (l .good) (l .x) (r .result .p) (l .inv .0) (omega (arith, t .loop-test .taken, begin₁ t .pre .0))
     (told-bit _ _ _ _ _ (r .ensures)) in
     omega (arith, c .pel-in-byte .ensures .0, h)
 
@@ -274,12 +284,20 @@ loop-again-2 c =
     let above = pelsTo (a .above .now) (a .width) in
     let cx = 4 * l .window .above + l .window .this in
     let put : (j .table .entries ≡ set (l .table .entries) cx (v .entry)) × (j .at ≡ l .at + v .settled)
+    × (j .revisits ≡ counted (v .revisited) (l .revisits))
     × (j .good ≡ (l .good && matches (a .code .now) (l .at) (bytesOf v)))
-    = ⊎-elim (λ w. (ap (λ (u : Table). u .entries) (w .3), w .4, w .5 ∙ w .1 .ensures))
-    (λ w. let k = pelled-kept (l .coder) (l .table .entries) [] cx (l .at) _ v (r .ensures .pelled) (w .0 .left) in (
+    = ⊎-elim (λ w. (
+      ap (λ (u : Table). u .entries) (w .3),
+      w .4,
+      w .5 ∙ add-one (l .revisits) ∙ ap (λ (b : Bool). counted b (l .revisits)) (sym (w .0 .taken)),
+      w .6 ∙ w .1 .ensures,
+    ))
+    (λ w. let k = pelled-kept (l .coder) (l .table .entries) [] cx (l .at) (l .revisits) _ v (r .ensures .pelled)
+    (w .0 .left) in (
       ap (λ (u : Table). u .entries) (w .1) ∙ k .0,
       w .2 ∙ k .2,
-      w .3 ∙ match-none (l .coder) _ _ v (a .code .now) (l .at) (l .good) (r .ensures .pelled) (w .0 .left),
+      w .3 ∙ k .3,
+      w .4 ∙ match-none (l .coder) _ _ v (a .code .now) (l .at) (l .good) (r .ensures .pelled) (w .0 .left),
     )) (j .came) in
     let reach : (m .end ≤ a .width) × Under above (l .x) (m .end)
     = ⊎-elim
@@ -287,11 +305,12 @@ loop-again-2 c =
     (λ w. subst (λ (z : ℕ). (z ≤ a .width) × Under above (l .x) z) (sym (w .1)) (l .inv .1, l .inv .2)) (m .came) in
     rw add-one (
       read-turn (a .width) above (a .start .table .entries) (a .start .coder) (a .code .now) (a .start .at)
-          (a .start .good) (a .start .view) (l .row) (l .table .entries) (l .coder) (l .window) (l .view)
-          (l .at) (l .good) (l .x) (l .inv .0) (t .loop-test .taken) (begin₁ t .pre .0)
+          (a .start .revisits) (a .start .good) (a .start .view) (l .row) (l .table .entries) (l .coder) (l .window)
+          (l .view) (l .at) (l .revisits) (l .good) (l .x) (l .inv .0) (t .loop-test .taken) (begin₁ t .pre .0)
           (pels-bits (a .above .now) (a .width)) (r .result) cx (r .result .p) (y .result) (j .table .entries)
-          (s .result) (j .at) (j .good) (put .0) (slid-context _ _ _ _ (l .inv .0 .slid)) (r .ensures)
-          (r .ensures .told) (y .ensures .0) (s .ensures .0) (s .ensures .1) (put .1) (put .2),
+          (s .result) (j .at) (j .revisits) (j .good) (put .0) (slid-context _ _ _ _ (l .inv .0 .slid)) (r .ensures)
+          (r .ensures .told) (y .ensures .0) (s .ensures .0) (s .ensures .1) (put .1) (put .2)
+          (put .3),
       reach .0,
       under-part _ _ _ _ _ (omega arith) (omega arith) (reach .1),
     )
@@ -331,6 +350,7 @@ read-row-spec =
     element-write-table
     match-two-requires
     add-at
+    add-revisits
     slide-requires
     array-read-row
     pel-in-byte-requires

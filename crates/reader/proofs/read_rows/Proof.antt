@@ -8,7 +8,7 @@ use borrow.Author.Needs.{needs}
 use lib.ListN.{length}
 use Rattle.limits.specs.Limits.{maxRows, lastBytes}
 use Rattle.reader.specs.Reads.{BandRead}
-use Rattle.reader.proofs.RowsRead.{reads-start, reads-again, next-room}
+use Rattle.reader.proofs.RowsRead.{reads-start, reads-again, reads-revisits, next-room}
 use Rattle.reader.proofs.read_rows.Statement.{statement}
 use Rattle.reader.proofs.read_rows.Tie as tie
 use Prim.Native.Nat.{ℕ, _+_, _*_}
@@ -64,7 +64,7 @@ loop-holds c =
       refl,
       n,
       reads-start (a .width) (a .last) (a .code .now) (a .table .entries) (a .out .now) _ (c .before .start .ensures)
-          refl (s .pre .4) refl refl (v .ensures .0) (v .ensures .1) (v .ensures .2) (v .ensures .3),
+          refl (s .pre .4) refl refl refl (v .ensures .0) (v .ensures .1) (v .ensures .2) (v .ensures .3),
     )
 
 slice-aggregate-read-row : tie.Need-slice-aggregate-read-row Inv-loop μ-loop
@@ -83,6 +83,7 @@ read-row-requires c κs =
       b .ready,
       omega (arith, b .count, t, q .2),
       omega (arith, b .place, b .few, t, q .2),
+      reads-revisits _ _ _ _ _ _ _ _ _ b,
       b .within,
       b .near,
       b .small,

@@ -210,7 +210,7 @@ returns-4 c =
     (read-end (deskOf p) (a .ask) (a .code .now) (a .out .now) i t (pageIn p i) m (r .result) _ (r .ensures) o e)
     (read-effect (deskOf p) (a .ask) (a .code .now) (a .out .now) i t (pageIn p i) m (r .result) _ (r .ensures) o e)
     (page-as (ap (λ (x : Read). asPage (getD (a .book .pages) i noPageLine) (x .table .entries) (x .last)) g)
-    (n .ensures)) (c .done .ensures ∙ ap (λ (x : Read). doneBy (x .length) (x .shifts) (n .result)) g)
+    (n .ensures)) (c .done .ensures ∙ ap (λ (x : Read). doneBy (x .length) (x .shifts) (x .revisits) (n .result)) g)
     (read-lent (deskOf p) (a .ask) (a .code .now) (a .out .now) i t (pageIn p i) m (r .result) _ (r .ensures) o e)
 
 pub read-spec : {M : Type 1} → statement M

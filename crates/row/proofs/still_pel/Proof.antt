@@ -15,7 +15,7 @@ still-requires c κs = let f = c .pre .2 .rest .fit in (omega (arith, c .pre .1)
 returns : tie.Need-returns
 returns c =
     let a = c .before .args in
-    ap (λ (d : Coder). record { coder = d; entry = a .e; moved = false; settled = 0; first = 0; second = 0 })
+    ap (λ (d : Coder). record { coder = d; entry = a .e; revisited = false; settled = 0; first = 0; second = 0 })
     (c .still .ensures ∙ ap (λ (n : ℕ). stillBy n (a .coder)) (c .before .pre .0))
 
 pub still-pel-spec : {M : Type 1} → statement M

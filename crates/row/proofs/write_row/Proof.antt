@@ -2,6 +2,8 @@
 -- known to. Assumes nothing.
 use mathlib.Core.Path.{_≡_, sym, ap, _∙_, subst}
 use mathlib.Core.Logic.{⊎-elim}
+use mathlib.Core.Bool.{Bool}
+use Rattle.coder.specs.Writing.{counted}
 use Prim.Native.Nat.{ℕ, _+_, _-_, _*_}
 use native.Mathlib.Numerals.{add-one}
 use native.Mathlib.Omega.{arith}
@@ -17,19 +19,21 @@ use Rattle.template.proofs.Sliding.{pels-bits, slid-context}
 use Rattle.estimate.specs.declared.Table.{Table}
 use Rattle.row.specs.WrittenRow.{bytesOf}
 use Rattle.row.proofs.WrittenRow.{RowAt, pelled-kept}
-use Rattle.row.proofs.WrittenRow.{row-start, row-again, row-done, row-window, row-length}
+use Rattle.row.proofs.WrittenRow.{row-start, row-again, row-done, row-window, row-length, row-revisits}
 use Rattle.row.proofs.WrittenRuns.{row-run}
 use Rattle.row.proofs.write_row.Statement.{statement}
 use Rattle.row.proofs.write_row.Tie as tie
 use Prim.Native.Nat.{_<_}
 
 abbrev Inv-loop : tie.InvT-loop
-Inv-loop row above width out₀ coder₀ table₀ at₀ window₀ end₀ x₀ out coder table at window end x =
-    RowAt width (pelsTo above width) row (table₀ .entries) coder₀ out₀ at₀ (table .entries) coder window out at x
+Inv-loop row above width out₀ coder₀ table₀ at₀ revisits₀ window₀ end₀ x₀ out coder table at revisits window end x =
+    RowAt width (pelsTo above width) row (table₀ .entries) coder₀ out₀ at₀ revisits₀ (table .entries) coder window out
+    at revisits x
     × Clear row (pelsTo above width) width x end
 
 abbrev μ-loop : tie.MeasureT-loop
-μ-loop row above width out₀ coder₀ table₀ at₀ window₀ end₀ x₀ out coder table at window end x = width - x
+μ-loop row above width out₀ coder₀ table₀ at₀ revisits₀ window₀ end₀ x₀ out coder table at revisits window end x =
+    width - x
 
 -- ---- the stations of a row: each is a place passed on the way, seen from a later one
 -- the row begins, seen from where its own copies are made, and from a turn
@@ -65,7 +69,7 @@ pel-turn c = turn (looked c)
 edge : (c : tie.In-loop Inv-loop μ-loop) → let w = c .before .loop .window in (w .above < 32) × (w .this < 4)
 edge c =
     let a = begin₁ c .args in
-    row-window _ _ _ _ _ _ _ _ _ _ _ _ _ (pels-bits (a .above .now) (a .width)) (c .before .loop .inv .0)
+    row-window _ _ _ _ _ _ _ _ _ _ _ _ _ _ _ (pels-bits (a .above .now) (a .width)) (c .before .loop .inv .0)
 
 -- ---- the answers
 start-requires : tie.Need-start-requires Inv-loop μ-loop
@@ -74,7 +78,7 @@ start-requires c κs = omega arith
 loop-holds : tie.Need-loop-holds Inv-loop μ-loop
 loop-holds c =
     let p = begin (c .before) .pre in
-    (row-start _ _ _ _ _ _ _ _ (c .start .ensures) (p .4) (p .5), clear-none _ _ _ _ _ (omega arith) (omega arith))
+    (row-start _ _ _ _ _ _ _ _ _ (c .start .ensures) (p .4) (p .5), clear-none _ _ _ _ _ (omega arith) (omega arith))
 
 pel-at-requires : tie.Need-pel-at-requires Inv-loop μ-loop
 pel-at-requires c κs = omega arith
@@ -159,7 +163,8 @@ loop-again c =
     let n = c .before .before .before .fits2 in
     let so = r .before .starts-run .ensures (r .if1 .taken) in
     rw (c .before .still .ensures, c .white2 .ensures) (
-      row-run (a .width) (pelsTo (a .above .now) (a .width)) (a .row .now) _ _ _ _ (l .table .entries) _ _ (so .0)
+      row-run (a .width) (pelsTo (a .above .now) (a .width)) (a .row .now) _ _ _ _ _ (l .table .entries) _ _ _
+          (so .0)
           (pels-bits (a .above .now) (a .width)) (l .coder) (l .window) (l .x) (u .result) (n .result) _
           (l .inv .0) (so .1) (u .ensures .1) (u .ensures .0) (n .ensures .0)
           (ap (λ (z : ℕ). n .result * z) (q .ensures)) (omega (arith, n .ensures .1, l .inv .0 .ready .wide)),
@@ -186,6 +191,13 @@ put-two-requires c κs =
     let p = begin₁ t .pre in
     let n = c .before .before .before .put-pel .ensures .few in
     (n, omega (arith, i .place, i .few, t .loop-test .taken, n, p .0, p .7))
+
+add-revisits : tie.Need-add-revisits Inv-loop μ-loop
+add-revisits c =
+    let t = pel-turn (c .before .before .before .before .before) in
+    let i = t .before .loop .inv .0 in
+    let p = begin₁ t .pre in
+    omega (arith, row-revisits _ _ _ _ _ _ _ _ _ _ _ _ _ _ _ i (p .8), i .count, t .loop-test .taken, p .6, p .0)
 
 slide-requires : tie.Need-slide-requires Inv-loop μ-loop
 slide-requires c κs =
@@ -215,28 +227,35 @@ loop-again-2 c =
     let put : (j .table .entries ≡ set (l .table .entries) cx (v .result .entry))
     × (j .out ≡ stores (l .out) (l .at) (bytesOf (v .result)))
     × (j .at ≡ l .at + v .result .settled)
-    = ⊎-elim (λ w. (ap (λ (u : Table). u .entries) (w .6), w .5 ∙ w .2 .ensures .1, w .7 ∙ w .2 .ensures .0))
-    (λ w. let k = pelled-kept (l .coder) (l .table .entries) (l .out) cx (l .at) _ (v .result) (v .ensures)
-    (w .0 .left) in
-    (ap (λ (u : Table). u .entries) (w .2) ∙ k .0, w .1 ∙ k .1, w .3 ∙ k .2)) (j .came) in
+    × (j .revisits ≡ counted (v .result .revisited) (l .revisits))
+    = ⊎-elim (λ w. (
+      ap (λ (u : Table). u .entries) (w .6),
+      w .5 ∙ w .2 .ensures .1,
+      w .7 ∙ w .2 .ensures .0,
+      w .8 ∙ add-one (l .revisits) ∙ ap (λ (s : Bool). counted s (l .revisits)) (sym (w .0 .taken)),
+    ))
+    (λ w. let k = pelled-kept (l .coder) (l .table .entries) (l .out) cx (l .at) (l .revisits) _ (v .result)
+    (v .ensures) (w .0 .left) in
+    (ap (λ (u : Table). u .entries) (w .2) ∙ k .0, w .1 ∙ k .1, w .3 ∙ k .2, w .4 ∙ k .3)) (j .came) in
     let reach : Clear (a .row .now) above (a .width) (l .x) (m .end)
     = ⊎-elim
     (λ w. subst (λ (z : ℕ). Clear (a .row .now) above (a .width) (l .x) z) (sym (w .6)) (w .1 .ensures .1))
     (λ w. subst (λ (z : ℕ). Clear (a .row .now) above (a .width) (l .x) z) (sym (w .1)) (l .inv .1)) (m .came) in
     rw add-one (
-      row-again (a .width) above (a .row .now) _ _ _ _ (l .table .entries) (l .coder) (l .window) (l .out) (l .at)
-          (l .x) (v .result) (l .inv .0) (t .loop-test .taken) cx (p .result) (j .table .entries) (s .result) (j .out)
-          (j .at) (put .0) (pels-bits (a .above .now) (a .width)) (slid-context _ _ _ _ (l .inv .0 .slid))
-          (p .ensures .0) (v .ensures) (s .ensures .0) (s .ensures .1) (put .1) (put .2),
+      row-again (a .width) above (a .row .now) _ _ _ _ _ (l .table .entries) (l .coder) (l .window) (l .out) (l .at)
+          (l .revisits) (l .x) (v .result) (l .inv .0) (t .loop-test .taken) cx (p .result) (j .table .entries)
+          (s .result) (j .out) (j .at) (j .revisits) (put .0) (pels-bits (a .above .now) (a .width))
+          (slid-context _ _ _ _ (l .inv .0 .slid)) (p .ensures .0) (v .ensures) (s .ensures .0) (s .ensures .1)
+          (put .1) (put .2) (put .3),
       clear-later _ _ _ _ _ _ (omega arith) reach,
     )
 
 same-length : tie.Need-same-length Inv-loop μ-loop
-same-length c = row-length _ _ _ _ _ _ _ _ _ _ _ _ _ (c .before .loop .inv .0)
+same-length c = row-length _ _ _ _ _ _ _ _ _ _ _ _ _ _ _ (c .before .loop .inv .0)
 
 returns : tie.Need-returns Inv-loop μ-loop
 returns c =
-    row-done _ _ _ _ _ _ _ _ _ _ _ _ _ (c .before .loop .inv .0) (omega (arith, c .before .loop .inv .0 .passed))
+    row-done _ _ _ _ _ _ _ _ _ _ _ _ _ _ _ (c .before .loop .inv .0) (omega (arith, c .before .loop .inv .0 .passed))
 
 pub write-row-spec : {M : Type 1} → statement M
 write-row-spec =
@@ -266,6 +285,7 @@ write-row-spec =
     put-pel-requires
     element-write-table
     put-two-requires
+    add-revisits
     slide-requires
     add-x-2
     loop-less-2

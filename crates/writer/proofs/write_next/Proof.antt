@@ -75,6 +75,7 @@ write-row-requires c κs =
       q .6,
       q .7,
       q .8,
+      q .9,
     )
 
 same-length : tie.Need-same-length

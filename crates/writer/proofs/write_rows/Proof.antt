@@ -12,7 +12,7 @@ use Rattle.octets.specs.Fit.{Ready}
 use Rattle.octets.proofs.Fit.{ready-start}
 use Rattle.writer.specs.RowByRow.{BandAt}
 use Rattle.writer.proofs.RowByRow.{RowsKeep, band-first, start-count}
-use Rattle.writer.proofs.RowByRow.{keep-next, rows-fit, row-inside, band-length}
+use Rattle.writer.proofs.RowByRow.{keep-next, rows-fit, row-inside, band-length, band-revisits}
 use Rattle.writer.proofs.write_rows.Statement.{statement}
 use Rattle.writer.proofs.write_rows.Tie as tie
 
@@ -56,20 +56,21 @@ whole c =
 -- the first row
 begun : (c : tie.After-write-row Inv-loop μ-loop) → let a = begin (sized c) .args in let w = c .write-row in
     BandAt (a .width) (a .t2) (a .pels .now) (a .table .entries) (a .out .now) (rowAt (a .width) (a .pels .now) 0)
-    (w .result .table .entries) (w .result .coder) (w .last .1 .1 .1 .1 .0) (w .result .at) 1
+    (w .result .table .entries) (w .result .coder) (w .last .1 .1 .1 .1 .0) (w .result .at) (w .result .revisits) 1
 begun c =
     let s = sized c in
     let a = begin s .args in
     let q = begin s .pre in
     let m = s .row-bytes in
     let k = c .before .before .before .before .start in
-    band-first (a .width) (a .t2) (a .pels .now) (a .table .entries) (a .out .now) (m .result) (k .result) _ _ _ _
+    band-first (a .width) (a .t2) (a .pels .now) (a .table .entries) (a .out .now) (m .result) (k .result) _ _ _ _ _
     (m .ensures) (q .0) (q .1) (k .ensures) (q .5) (c .write-row .ensures)
 
 -- the rows so far
 kept : (c : tie.At-loop Inv-loop μ-loop) → let a = begin₁ c .args in let l = c .loop in
     BandAt (a .width) (a .t2) (a .pels .now) (a .table .entries) (a .out .now)
-    (rowAt (a .width) (a .pels .now) (l .y - 1)) (l .run .table .entries) (l .run .coder) (l .out) (l .run .at) (l .y)
+    (rowAt (a .width) (a .pels .now) (l .y - 1)) (l .run .table .entries) (l .run .coder) (l .out) (l .run .at)
+    (l .run .revisits) (l .y)
 kept c = let a = begin₁ c .args in c .loop .inv .3 (a .t2) (a .table .entries) (a .out .now) (begun (first c))
 
 -- ---- the answers
@@ -101,6 +102,7 @@ write-row-requires c κs =
       subst Ready (sym (k .ensures)) ready-start,
       omega (arith, start-count (k .result) (k .ensures)),
       omega arith,
+      omega arith,
     )
 
 loop-holds : tie.Need-loop-holds Inv-loop μ-loop
@@ -122,6 +124,7 @@ write-next-requires c κs =
       b .ready,
       omega (arith, b .count, t, q .3),
       omega (arith, b .place, b .few, t, q .3),
+      band-revisits _ _ _ _ _ _ _ _ _ _ _ _ b,
     )
 
 add-y : tie.Need-add-y Inv-loop μ-loop
@@ -145,7 +148,7 @@ loop-again c =
     )
 
 same-length : tie.Need-same-length Inv-loop μ-loop
-same-length c = band-length _ _ _ _ _ _ _ _ _ _ _ (kept (c .before))
+same-length c = band-length _ _ _ _ _ _ _ _ _ _ _ _ (kept (c .before))
 
 returns : tie.Need-returns Inv-loop μ-loop
 returns c =

@@ -238,7 +238,7 @@ returns-5 c =
     (write-end (deskOf p) (a .ask) (a .pels .now) (a .out .now) i t (pageIn p i) m l q (w .result) (w .ensures .0) e)
     (write-effect (deskOf p) (a .ask) (a .pels .now) (a .out .now) i t (pageIn p i) m)
     (page-as (ap (λ (r : Wrote). asPage (getD (a .book .pages) i noPageLine) (r .table .entries) (r .last)) g)
-    (n .ensures)) (c .done .ensures ∙ ap (λ (r : Wrote). doneBy (r .length) (r .shifts) (n .result)) g)
+    (n .ensures)) (c .done .ensures ∙ ap (λ (r : Wrote). doneBy (r .length) (r .shifts) (r .revisits) (n .result)) g)
     (w .ensures .1
     ∙ write-lent (deskOf p) (a .ask) (a .pels .now) (a .out .now) i t (pageIn p i) m l q (w .result) (w .ensures .0) e)
 
