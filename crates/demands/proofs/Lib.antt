@@ -5,3 +5,4 @@ pub mod Demand1
 pub mod Demand2
 pub mod Ran
 pub mod WorkedRun
+pub mod Revisits
