@@ -22,6 +22,9 @@ pub const THEOREMS: &[(&str, &[&str])] = &[
     ("demands", &["answers", "in-table", "refused", "alone", "all-zero", "accepted"]),
     // demand 2
     ("demands", &["wrote", "read-back", "damaged", "only-then", "marker-told"]),
+    // how many pels are revisited (request E11)
+    ("band", &["at-most-shifts", "at-most-pels"]),
+    ("demands", &["revisits"]),
     // demand 3
     ("demands", &["any-order", "as-run", "any-history"]),
     // document 01: pels; the fresh table; the table of source document 000
@@ -67,7 +70,7 @@ pub const SECTIONS: &[(&str, &[&str])] = &[
         "unique/Search", "unique/BandOfCode", "unique", "demands/Certain",
     ]),
     ("The three demands", &[
-        "demands/Demand1", "demands/Demand2", "demands/Damaged",
+        "demands/Demand1", "demands/Demand2", "demands/Damaged", "demands/Revisits",
         "turns/Service", "turns/Serial", "turns/Base", "turns/Strike", "turns/Own", "turns/Order", "turns",
         "serial/Run", "serial", "demands/AnyOrder", "demands",
     ]),

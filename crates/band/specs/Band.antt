@@ -43,8 +43,9 @@ pageAt width table last = record { table = table; above = pelsTo last width; thi
 unfoldable pub white : List ℕ
 white = replicate lastBytes 0
 
--- ---- a band as written: its code, S, how many of its pels were revisited, the table after it, the last row after it
--- (in the room that a page has for it)
+-- ---- a band as written
+-- its code, S, how many of its pels were revisited, the table after it, the last row after it (in the room that a page
+-- has for it)
 pub record Written : Type 0 where
   pub code : List ℕ
   pub shifts : ℕ

@@ -156,7 +156,7 @@ pub extern "C" fn siftpebble_look(
     r.answer
 }
 
-// Write band: the code in the front of the buffer, the rest kept; its length and S.
+// Write band: the code in the front of the buffer, the rest kept; its length, S and the pels revisited.
 #[no_mangle]
 pub extern "C" fn siftpebble_write(
     desk: &mut Parts,
@@ -185,7 +185,7 @@ pub extern "C" fn siftpebble_write(
     r.answer
 }
 
-// Read band: the rows in the front of the buffer, the rest kept; their bytes and S.
+// Read band: the rows in the front of the buffer, the rest kept; their bytes, S and the pels revisited.
 #[no_mangle]
 pub extern "C" fn siftpebble_read(
     desk: &mut Parts,

@@ -83,7 +83,8 @@ module _ (d : Desk) (c : Call) (r : Outcome) (after : List ℕ) (p : Allowed d c
   refused h = go (number (p .reader .finds) d c) (p .outcome) (p .lent)
     where
       o : Outcome
-      o = done (effectOn (p .reader .finds) d c) (changed d (keyOf c) (effectOn (p .reader .finds) d c .page) (effectOn (p .reader .finds) d c .learned))
+      o = done (effectOn (p .reader .finds) d c)
+          (changed d (keyOf c) (effectOn (p .reader .finds) d c .page) (effectOn (p .reader .finds) d c .learned))
 
       go : (n : ℕ) → r ≡ unless n d o → after ≡ unlessLent n (lentTo c) (effectOn (p .reader .finds) d c .lent)
           → Refused d c r after

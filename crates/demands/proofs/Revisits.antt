@@ -1,5 +1,5 @@
--- Request E11: whatever the call and whatever its outcome, the pels revisited are at most S and at most the band's pels;
--- so calls that are no band answer 0. Assumes nothing.
+-- Request E11: whatever the call and its outcome, the pels revisited are at most S and at most the band's pels; so
+-- calls that are no band answer 0. Assumes nothing.
 use mathlib.Core.Path.{sym, subst}
 use mathlib.Core.List.{List}
 use Prim.Native.Nat.{ℕ, zero, suc, _*_, _≤_}

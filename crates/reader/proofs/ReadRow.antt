@@ -12,7 +12,6 @@ use lib.Dec.{ltb, eqb}
 use Rattle.limits.specs.Limits.{maxWidth, lastBytes}
 use Rattle.coder.specs.Writing.{Stage, counted, step, after}
 use Rattle.coder.proofs.Writing.{after-append}
-use Rattle.coder.proofs.Revisits.{revisits-shifts}
 use Rattle.coder.specs.Reading.{readPels, pelOf}
 use Rattle.coder.specs.Page.{Page, contextOf, entryAt, size, sense, move}
 use Rattle.estimate.specs.Estimate.{rowOf, LawfulTable}
@@ -28,7 +27,6 @@ use Rattle.template.proofs.Sliding.{slid-next, slid-small, length-pels, pels-bi
 use Rattle.template.specs.Packing.{Row}
 use Rattle.template.proofs.Packing.{row-next, pels-next, byte-room}
 use Rattle.band.specs.Band.{qScheme, qWriter, qPage}
-use Rattle.band.proofs.Revisits.{q-counts}
 use Rattle.row.specs.WrittenRow.{Pelled, bytesOf, stageOf, pageOf, through}
 use Rattle.row.proofs.WrittenRow.{page-within, step-within, few-bytes, pelled-ready, pelled-count, pelled-lawful}
 use Rattle.interval.specs.Interval.{decision, partOf}
@@ -117,13 +115,6 @@ module _ (width : ℕ) (above t₀ : List ℕ) (c₀ : Coder) (code : List ℕ) 
       → ((y : ℕ) → getD above y 0 ≤ 1) → RowRead row t c w v at n good x
       → (w .above < 32) × (w .this < 4)
   read-window row t c w v at n good x b f = slid-small above (pelsTo row x) x w b (pels-bits row x) (f .slid)
-
-  -- no more pels were revisited than there were shifts
-  pub read-revisits : (row t : List ℕ) (c : Coder) (w : Window) (v : View) (at n : ℕ) (good : Bool) (x : ℕ)
-      → RowRead row t c w v at n good x → n₀ ≤ c₀ .interval .count → n ≤ c .interval .count
-  read-revisits row t c w v at n good x f h =
-      subst (λ (s : Stage (qPage width) qWriter). s .revisits ≤ s .writer .interval .count) (f .stage)
-      (revisits-shifts (qPage width) qWriter q-counts (pelsTo row x) begun h)
 
   -- there is room for the pel in its byte
   pub read-room : (row t : List ℕ) (c : Coder) (w : Window) (v : View) (at n : ℕ) (good : Bool) (x p : ℕ)

@@ -32,14 +32,14 @@ module _ (width : ℕ) (above code : List ℕ) (s : Progress) (some : 1 ≤ widt
 
   pub line-read : LineRead width above code s l
   line-read =
-      let g = subst (λ (n : ℕ). RowRead width above (s .table .entries) (s .coder) code (s .at) (s .revisits) (s .good) (s .view)
-      (l .row) (l .reading .table .entries) (l .reading .coder) w (l .reading .view) (l .reading .at)
-      (l .reading .revisits) (l .reading .good) n) whole f in
+      let g = subst (λ (n : ℕ). RowRead width above (s .table .entries) (s .coder) code (s .at) (s .revisits)
+      (s .good) (s .view) (l .row) (l .reading .table .entries) (l .reading .coder) w (l .reading .view)
+      (l .reading .at) (l .reading .revisits) (l .reading .good) n) whole f in
       record {
         settled = g .settled;
-        stage = ap (λ (m : Page). through width (stageOf width m (lift (s .coder) []) (s .revisits)) (pelsTo (l .row) width))
-            (sym start-page) ∙ g .stage ∙ ap (λ (m : Page). stageOf width m (lift (l .reading .coder) (g .settled))
-            (l .reading .revisits))
+        stage = ap (λ (m : Page). through width (stageOf width m (lift (s .coder) []) (s .revisits))
+            (pelsTo (l .row) width)) (sym start-page) ∙ g .stage
+            ∙ ap (λ (m : Page). stageOf width m (lift (l .reading .coder) (g .settled)) (l .reading .revisits))
             end-page;
         read = λ n. ap (λ (m : Page). reads width (width + n) m (sightOf (s .view) (s .coder .interval .width) code))
             (sym start-page) ∙ g .read n

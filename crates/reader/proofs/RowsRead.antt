@@ -11,7 +11,6 @@ use lib.Seq.{paste, take-at, drop-append-add, drop-drop, getD-append-add}
 use Rattle.limits.specs.Limits.{maxWidth, lastBytes}
 use Rattle.coder.specs.Writing.{Stage, after}
 use Rattle.coder.proofs.Writing.{after-append}
-use Rattle.coder.proofs.Revisits.{revisits-shifts}
 use Rattle.coder.specs.Page.{Page}
 use Rattle.estimate.specs.Estimate.{LawfulTable}
 use Rattle.octets.specs.Octets.{Registers, start}
@@ -21,7 +20,6 @@ use Rattle.octets.specs.Lift.{lift}
 use Rattle.exact.specs.Sight.{Sight, opened}
 use Rattle.template.specs.Pels.{rowBytes, pelsTo, bandTo, bandPadded}
 use Rattle.band.specs.Band.{IsBand, qWriter, qPage, pageAt}
-use Rattle.band.proofs.Revisits.{q-counts}
 use Rattle.row.specs.WrittenRow.{stageOf, through}
 use Rattle.row.proofs.WrittenRow.{lift-behind}
 use Rattle.writer.proofs.RowByRow.{put-behind, behind-through}
@@ -177,14 +175,6 @@ module _ (width : ℕ) (last code t₀ out₀ : List ℕ) where
               ∙ ap (λ (k : List ℕ). k ++ replicate (lastBytes - bytes) 0)
               (sym (last-grow width y (b .band) row (b .isBand .size) row-size 0));
         }
-
-  -- no more pels were revisited than there were shifts
-  pub reads-revisits : (above : List ℕ) (r : Progress) (out : List ℕ) (y : ℕ) → BandRead width last code t₀ out₀ above
-      r out y → r .revisits ≤ r .coder .interval .count
-  reads-revisits above r out y b =
-      subst (λ (s : Stage (qPage width) qWriter). s .revisits ≤ s .writer .interval .count) (b .stage)
-      (revisits-shifts (qPage width) qWriter q-counts (bandTo width (b .band) y) (begun width last code t₀ out₀)
-      (omega arith))
 
 -- there is room for the next row
 pub next-room : (y rows bytes len : ℕ) → y < rows → rows * bytes ≤ len → y * bytes + bytes ≤ len

@@ -12,7 +12,6 @@ use Rattle.ground.proofs.Bools.{no-way}
 use Rattle.ground.proofs.Tests.{if-eq, if-ne}
 use Rattle.coder.specs.Writing.{Stage, counted, step, after}
 use Rattle.coder.proofs.Writing.{after-append}
-use Rattle.coder.proofs.Revisits.{revisits-shifts}
 use Rattle.coder.specs.Page.{Page, contextOf, entryAt, size, sense, taught, placed, move}
 use Rattle.estimate.specs.Estimate.{rowOf, next, LawfulEntry, LawfulTable}
 use Rattle.estimate.proofs.LawfulEntries.{row-sized, next-lawful, set-lawful}
@@ -35,7 +34,6 @@ use Rattle.template.specs.Window.{Slid}
 use Rattle.template.proofs.Sliding.{slid-next, slid-small, length-pels, pels-bits, pel-bit}
 use Rattle.row.specs.declared.Pel.{Pel}
 use Rattle.band.specs.Band.{qWriter, qPage}
-use Rattle.band.proofs.Revisits.{q-counts}
 use Rattle.row.specs.WrittenRow.{shiftedBy, Pelled, stillPel, decided, movedPel, bytesOf, pageOf, stageOf}
 use Rattle.row.specs.WrittenRow.{through}
 use Rattle.row.specs.WrittenRow.{begun, RowDone}
@@ -85,8 +83,8 @@ pub pelled-kept : (c : Coder) (t out : List ℕ) (cx at n : ℕ) (b : Bool) (v :
     × (n ≡ counted (v .revisited) n)
 unfolding stores
 pelled-kept c t out cx at n b v k z = (
-  sym (ap (set t cx) (k .entry ∙ ap (λ (s : Bool). cond s (next b (getD t cx 0)) (getD t cx 0)) (sym (k .revisited) ∙ z))
-      ∙ set-getD t cx 0),
+  sym (ap (set t cx) (k .entry
+      ∙ ap (λ (s : Bool). cond s (next b (getD t cx 0)) (getD t cx 0)) (sym (k .revisited) ∙ z)) ∙ set-getD t cx 0),
   ap (stores out at) (sym (pelled-quiet c (getD t cx 0) b v k z)),
   omega (arith, k .quiet z),
   ap (λ (s : Bool). counted s n) (sym z),
@@ -254,13 +252,6 @@ module _ (width : ℕ) where
     pub row-length : (t : List ℕ) (c : Coder) (w : Window) (out : List ℕ) (at n x : ℕ) → RowAt t c w out at n x
         → length out ≡ length out₀
     row-length t c w out at n x r = ap length (r .stored) ∙ length-stores out₀ at₀ (r .settled)
-
-    -- no more pels were revisited than there were shifts
-    pub row-revisits : (t : List ℕ) (c : Coder) (w : Window) (out : List ℕ) (at n x : ℕ) → RowAt t c w out at n x
-        → n₀ ≤ c₀ .interval .count → n ≤ c .interval .count
-    row-revisits t c w out at n x r h =
-        subst (λ (s : Stage (qPage width) qWriter). s .revisits ≤ s .writer .interval .count) (r .stage)
-        (revisits-shifts (qPage width) qWriter q-counts (pelsTo row x) (begun width above row t₀ c₀ out₀ at₀ n₀) h)
 
     pub row-done : (t : List ℕ) (c : Coder) (w : Window) (out : List ℕ) (at n x : ℕ) → RowAt t c w out at n x
         → x ≡ width → RowDone width above row t₀ c₀ out₀ at₀ n₀ t c out at n

@@ -59,8 +59,8 @@ module _ (width : ℕ) (above row t₀ : List ℕ) (c₀ : Coder) (out₀ : List
       subst (λ (k : ℕ). On (stillBy k c) (x + m)) (sym e)
       (in-steps q x y (c .interval .width - 4096) (λ k v. On (stillBy k c) v) step m (omega arith) (omega arith)
       (subst (λ (d : Coder). On d x) (sym (still-none c))
-      (subst (λ (v : Window). RowAt width above row t₀ c₀ out₀ at₀ n₀ t c v out at n x) (slid-white above (pelsTo row x) x w
-      (r .slid) z) r)))
+      (subst (λ (v : Window). RowAt width above row t₀ c₀ out₀ at₀ n₀ t c v out at n x)
+      (slid-white above (pelsTo row x) x w (r .slid) z) r)))
     where
       step : (k v : ℕ) → x ≤ v → v < y → k + q ≤ c .interval .width - 4096 → On (stillBy k c) v
           → On (stillBy (k + q) c) (suc v)

@@ -11,7 +11,6 @@ use lib.Dec.{leb, eqb}
 use Rattle.ground.proofs.Bools.{both}
 use Rattle.coder.specs.Writing.{Stage, step, after}
 use Rattle.coder.proofs.Writing.{after-append}
-use Rattle.coder.proofs.Revisits.{revisits-shifts}
 use Rattle.coder.specs.Page.{Page, size, sense}
 use borrow.Author.Tests.{leb-true}
 use Rattle.estimate.specs.declared.Table.{Table}
@@ -30,7 +29,6 @@ use Rattle.template.specs.Pels.{pelsTo, rowAt, rowBytes, bandTo}
 use Rattle.row.specs.declared.Run.{Run}
 use Rattle.limits.specs.Limits.{maxWidth, maxRows, maxCode, lastBytes, maxBand}
 use Rattle.band.specs.Band.{qScheme, qWriter, qPage, pageAt, Written, written, lastRow, hasRoom}
-use Rattle.band.proofs.Revisits.{q-counts}
 use Rattle.writer.specs.Wrote.{wroteAnswer, wroteOut}
 use Rattle.row.specs.WrittenRow.{stageOf, through, RowDone}
 use Rattle.row.proofs.WrittenRow.{lift-behind, page-within}
@@ -296,13 +294,6 @@ RowsKeep width band run₀ out₀ run out y =
     (run₀ .at) (run₀ .revisits) 1
     → BandAt width last band t o (rowAt width band (y - 1)) (run .table .entries) (run .coder) out (run .at)
     (run .revisits) y
-
--- no more pels were revisited than there were shifts
-pub band-revisits : (width : ℕ) (last band t₀ out₀ above t : List ℕ) (c : Coder) (out : List ℕ) (at n y : ℕ)
-    → BandAt width last band t₀ out₀ above t c out at n y → n ≤ c .interval .count
-band-revisits width last band t₀ out₀ above t c out at n y b =
-    subst (λ (s : Stage (qPage width) qWriter). s .revisits ≤ s .writer .interval .count) (b .stage)
-    (revisits-shifts (qPage width) qWriter q-counts (bandTo width band y) (opened width last band t₀ out₀) (omega arith))
 
 pub band-length : (width : ℕ) (last band t₀ out₀ above t : List ℕ) (c : Coder) (out : List ℕ) (at n y : ℕ)
     → BandAt width last band t₀ out₀ above t c out at n y → length out ≡ length out₀

@@ -4,6 +4,7 @@ use mathlib.Core.Path.{_≡_, sym, ap, _∙_, subst}
 use mathlib.Core.Logic.{⊎-elim}
 use mathlib.Core.Bool.{Bool, _&&_}
 use Rattle.coder.specs.Writing.{counted}
+use Rattle.band.proofs.Revisits.{seldom}
 use Prim.Native.Nat.{ℕ, _+_, _-_, _*_, _≤_}
 use native.Mathlib.Numerals.{add-one}
 use native.Mathlib.Omega.{arith}
@@ -21,7 +22,7 @@ use Rattle.template.proofs.Packing.{row-none}
 use Rattle.row.specs.WrittenRow.{bytesOf}
 use Rattle.row.proofs.WrittenRow.{pelled-kept}
 use Rattle.sight.proofs.Views.{told-bit}
-use Rattle.reader.proofs.ReadRow.{RowRead, read-start, read-turn, read-window, read-room, read-revisits}
+use Rattle.reader.proofs.ReadRow.{RowRead, read-start, read-turn, read-window, read-room}
 use Rattle.reader.specs.ReadRow.{matches}
 use Rattle.reader.proofs.ReadRuns.{told-so, match-none, read-run}
 use Rattle.reader.proofs.RowRead.{line-read}
@@ -229,7 +230,7 @@ add-revisits c =
     let t = pel-turn (c .before .before .before) in
     let i = t .before .loop .inv .0 in
     let p = begin₁ t .pre in
-    omega (arith, read-revisits _ _ _ _ _ _ _ _ _ _ _ _ _ _ _ _ _ _ i (p .7), i .count, i .passed, p .0, p .5)
+    omega (arith, seldom _ _ _ _ (i .stage) (p .7), i .count, i .passed, p .0, p .5)
 
 slide-requires : tie.Need-slide-requires Inv-loop μ-loop
 slide-requires c κs =

@@ -7,8 +7,9 @@ use native.Mathlib.Omega.{arith}
 use borrow.Author.Needs.{needs}
 use lib.ListN.{length}
 use Rattle.limits.specs.Limits.{maxRows, lastBytes}
+use Rattle.band.proofs.Revisits.{seldom}
 use Rattle.reader.specs.Reads.{BandRead}
-use Rattle.reader.proofs.RowsRead.{reads-start, reads-again, reads-revisits, next-room}
+use Rattle.reader.proofs.RowsRead.{reads-start, reads-again, next-room}
 use Rattle.reader.proofs.read_rows.Statement.{statement}
 use Rattle.reader.proofs.read_rows.Tie as tie
 use Prim.Native.Nat.{ℕ, _+_, _*_}
@@ -83,7 +84,7 @@ read-row-requires c κs =
       b .ready,
       omega (arith, b .count, t, q .2),
       omega (arith, b .place, b .few, t, q .2),
-      reads-revisits _ _ _ _ _ _ _ _ _ b,
+      seldom _ _ _ _ (b .stage) (omega arith),
       b .within,
       b .near,
       b .small,

@@ -4,6 +4,7 @@ use mathlib.Core.Path.{_≡_, sym, ap, _∙_, subst}
 use mathlib.Core.Logic.{⊎-elim}
 use mathlib.Core.Bool.{Bool}
 use Rattle.coder.specs.Writing.{counted}
+use Rattle.band.proofs.Revisits.{seldom}
 use Prim.Native.Nat.{ℕ, _+_, _-_, _*_}
 use native.Mathlib.Numerals.{add-one}
 use native.Mathlib.Omega.{arith}
@@ -19,7 +20,7 @@ use Rattle.template.proofs.Sliding.{pels-bits, slid-context}
 use Rattle.estimate.specs.declared.Table.{Table}
 use Rattle.row.specs.WrittenRow.{bytesOf}
 use Rattle.row.proofs.WrittenRow.{RowAt, pelled-kept}
-use Rattle.row.proofs.WrittenRow.{row-start, row-again, row-done, row-window, row-length, row-revisits}
+use Rattle.row.proofs.WrittenRow.{row-start, row-again, row-done, row-window, row-length}
 use Rattle.row.proofs.WrittenRuns.{row-run}
 use Rattle.row.proofs.write_row.Statement.{statement}
 use Rattle.row.proofs.write_row.Tie as tie
@@ -197,7 +198,7 @@ add-revisits c =
     let t = pel-turn (c .before .before .before .before .before) in
     let i = t .before .loop .inv .0 in
     let p = begin₁ t .pre in
-    omega (arith, row-revisits _ _ _ _ _ _ _ _ _ _ _ _ _ _ _ i (p .8), i .count, t .loop-test .taken, p .6, p .0)
+    omega (arith, seldom _ _ _ _ (i .stage) (p .8), i .count, t .loop-test .taken, p .6, p .0)
 
 slide-requires : tie.Need-slide-requires Inv-loop μ-loop
 slide-requires c κs =

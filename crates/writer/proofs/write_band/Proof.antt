@@ -71,8 +71,9 @@ returns c =
     let p = s .put-last in
     with-room (a .width) (a .rows) (a .last) (a .pels .now) (a .table .entries) (a .out .now)
     (rowAt (a .width) (a .pels .now) (a .rows - 1)) (w .result .table .entries) (w .result .coder)
-    (w .last .1 .1 .1 .1 .1 .0) (w .result .at) (w .result .revisits) (w .ensures) _ (e .finish .ensures .0) _ (p .result) (p .ensures .1)
-    (counts s) (sym (h .has-room .ensures) ∙ c .before .before .if1 .taken) (a .table) _ (c .last-row .ensures)
+    (w .last .1 .1 .1 .1 .1 .0) (w .result .at) (w .result .revisits) (w .ensures) _ (e .finish .ensures .0) _
+    (p .result) (p .ensures .1) (counts s) (sym (h .has-room .ensures) ∙ c .before .before .if1 .taken) (a .table) _
+    (c .last-row .ensures)
 
 clear-requires : tie.Need-clear-requires
 clear-requires c κs = search needs
@@ -90,8 +91,9 @@ returns-2 c =
     let p = s .put-last in
     let z = without-room (a .width) (a .rows) (a .last) (a .pels .now) (a .table .entries) (a .out .now)
     (rowAt (a .width) (a .pels .now) (a .rows - 1)) (w .result .table .entries) (w .result .coder)
-    (w .last .1 .1 .1 .1 .1 .0) (w .result .at) (w .result .revisits) (w .ensures) _ (e .finish .ensures .0) _ (p .result) (p .ensures .1)
-    (counts s) (sym (h .has-room .ensures) ∙ c .before .before .before .before .if1 .left) (a .table) in
+    (w .last .1 .1 .1 .1 .1 .0) (w .result .at) (w .result .revisits) (w .ensures) _ (e .finish .ensures .0) _
+    (p .result) (p .ensures .1) (counts s) (sym (h .has-room .ensures) ∙ c .before .before .before .before .if1 .left)
+    (a .table) in
     (z .0, c .before .before .clear .ensures ∙ z .1)
 
 pub write-band-spec : {M : Type 1} → statement M

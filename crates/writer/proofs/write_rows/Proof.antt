@@ -10,9 +10,10 @@ use Rattle.limits.specs.Limits.{lastBytes}
 use Rattle.template.specs.Pels.{rowAt, rowBytes}
 use Rattle.octets.specs.Fit.{Ready}
 use Rattle.octets.proofs.Fit.{ready-start}
+use Rattle.band.proofs.Revisits.{seldom}
 use Rattle.writer.specs.RowByRow.{BandAt}
 use Rattle.writer.proofs.RowByRow.{RowsKeep, band-first, start-count}
-use Rattle.writer.proofs.RowByRow.{keep-next, rows-fit, row-inside, band-length, band-revisits}
+use Rattle.writer.proofs.RowByRow.{keep-next, rows-fit, row-inside, band-length}
 use Rattle.writer.proofs.write_rows.Statement.{statement}
 use Rattle.writer.proofs.write_rows.Tie as tie
 
@@ -124,7 +125,7 @@ write-next-requires c κs =
       b .ready,
       omega (arith, b .count, t, q .3),
       omega (arith, b .place, b .few, t, q .3),
-      band-revisits _ _ _ _ _ _ _ _ _ _ _ _ b,
+      seldom _ _ _ _ (b .stage) (omega arith),
     )
 
 add-y : tie.Need-add-y Inv-loop μ-loop
