@@ -75,13 +75,19 @@ struct siftpebble_desk;
  * others. Its shifts are S, the band's shifts, for a write or a read, and 0
  * for the others.
  *
- * A refused call has one of the numbers below, length 0 and shifts 0. It
- * changes nothing in the desk.
+ * Its revisits are how many of the band's pels had their context's estimate
+ * revisited, that is, made at least one shift: at most shifts, and at most the
+ * band's pels. They are the same for a write and for the read of its code, and
+ * 0 for the calls that are no band.
+ *
+ * A refused call has one of the numbers below, length 0, shifts 0 and
+ * revisits 0. It changes nothing in the desk.
  */
 struct siftpebble_answer {
     uint64_t number;
     uint64_t length;
     uint64_t shifts;
+    uint64_t revisits;
 };
 
 /*
@@ -162,7 +168,7 @@ struct siftpebble_answer siftpebble_open_read(struct siftpebble_desk *desk,
  * output, whose other bytes are kept. The pels are exactly rows x row bytes.
  * Where the last byte that the band's bits make is FF, one more byte 00
  * follows; it is part of the code. So no code ends in FF.
- * Answers the code's length, with that byte, and S.
+ * Answers the code's length, that byte included, and S and the revisits.
  * Refusals: 12, 1, 6 (rows), 2, 7, 6 (pels), 8, 9.
  */
 struct siftpebble_answer siftpebble_write(struct siftpebble_desk *desk,
@@ -173,9 +179,10 @@ struct siftpebble_answer siftpebble_write(struct siftpebble_desk *desk,
 
 /*
  * Reads the code of a band of 1 to 64 rows: the rows come into the front of
- * the lent output, whose other bytes are kept. Answers the bytes of all rows
- * and S. A code that ends in FF is not read, since no band is written so: it
- * is damaged, unless it has a marker.
+ * the lent output, whose other bytes are kept. Answers the bytes of all rows,
+ * and S and the revisits, which are those that the write answered. A code that
+ * ends in FF is not read, since no band is written so: it is damaged, unless
+ * it has a marker.
  * Refusals: 12, 1, 6, 2, 7, 9, 15, 10.
  */
 struct siftpebble_answer siftpebble_read(struct siftpebble_desk *desk,

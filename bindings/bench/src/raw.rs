@@ -6,7 +6,7 @@ use siftpebble::sys::{self, Answer, Desk};
 use siftpebble::Refusal;
 use siftpebble_model::Direction;
 use std::ffi::{c_char, c_int, c_void, CString};
-use std::mem::transmute;
+use std::mem::{transmute, MaybeUninit};
 
 extern "C" {
     fn dlopen(path: *const c_char, flags: c_int) -> *mut c_void;
@@ -15,13 +15,25 @@ extern "C" {
 
 const RTLD_NOW: c_int = 2;
 
+/// What a call answers. An earlier library may have fewer numbers in its answer,
+/// and then leaves the last ones unset. It has more than two, so that its answer
+/// too goes into memory of the caller, which is as large as today's.
+pub type Reply = MaybeUninit<Answer>;
+
+/// The number and the length, which every library sets.
+fn front(reply: Reply) -> (u64, u64) {
+    let answer = reply.as_ptr();
+    // SAFETY: nothing of the answer but these two is looked at.
+    unsafe { ((*answer).number, (*answer).length) }
+}
+
 pub type Bytes = unsafe extern "C" fn() -> usize;
 pub type Empty = unsafe extern "C" fn(*mut Desk);
-pub type Open = unsafe extern "C" fn(*mut Desk, u64, u64, u64) -> Answer;
-pub type Band =
-    unsafe extern "C" fn(*mut Desk, u64, u64, u64, *const u8, usize, *mut u8, usize) -> Answer;
-pub type Page = unsafe extern "C" fn(*mut Desk, u64, u64) -> Answer;
-pub type Look = unsafe extern "C" fn(*mut Desk, u64, u64, *mut u8, usize) -> Answer;
+pub type Open<A = Reply> = unsafe extern "C" fn(*mut Desk, u64, u64, u64) -> A;
+pub type Band<A = Reply> =
+    unsafe extern "C" fn(*mut Desk, u64, u64, u64, *const u8, usize, *mut u8, usize) -> A;
+pub type Page<A = Reply> = unsafe extern "C" fn(*mut Desk, u64, u64) -> A;
+pub type Look<A = Reply> = unsafe extern "C" fn(*mut Desk, u64, u64, *mut u8, usize) -> A;
 
 /// The calls of a library.
 #[derive(Clone, Copy)]
@@ -57,22 +69,26 @@ fn address(library: *mut c_void, name: &str) -> *mut c_void {
 impl Calls {
     /// Those of the library that is linked.
     pub fn linked() -> Self {
-        Calls {
-            bytes: sys::siftpebble_desk_bytes,
-            empty: sys::siftpebble_empty,
-            open_write: sys::siftpebble_open_write,
-            open_read: sys::siftpebble_open_read,
-            write: sys::siftpebble_write,
-            read: sys::siftpebble_read,
-            close: sys::siftpebble_close,
-            abandon: sys::siftpebble_abandon,
-            forget: sys::siftpebble_drop,
-            look: sys::siftpebble_look,
+        // SAFETY: a reply is handed back as an answer is.
+        unsafe {
+            Calls {
+                bytes: sys::siftpebble_desk_bytes,
+                empty: sys::siftpebble_empty,
+                open_write: transmute::<Open<Answer>, Open>(sys::siftpebble_open_write),
+                open_read: transmute::<Open<Answer>, Open>(sys::siftpebble_open_read),
+                write: transmute::<Band<Answer>, Band>(sys::siftpebble_write),
+                read: transmute::<Band<Answer>, Band>(sys::siftpebble_read),
+                close: transmute::<Page<Answer>, Page>(sys::siftpebble_close),
+                abandon: transmute::<Page<Answer>, Page>(sys::siftpebble_abandon),
+                forget: transmute::<Page<Answer>, Page>(sys::siftpebble_drop),
+                look: transmute::<Look<Answer>, Look>(sys::siftpebble_look),
+            }
         }
     }
 
     /// Those of the library in this file, which must be the calls of
-    /// `include/siftpebble.h`.
+    /// `include/siftpebble.h`, but that the last numbers of an answer may be
+    /// missing.
     pub fn load(path: &str) -> Self {
         let name = CString::new(path).expect("no zero in a path");
         // SAFETY: the name ends with a zero, and the library runs nothing when
@@ -80,7 +96,8 @@ impl Calls {
         let library = unsafe { dlopen(name.as_ptr(), RTLD_NOW) };
         assert!(!library.is_null(), "{path} cannot be loaded");
         let find = |name| address(library, name);
-        // SAFETY: the types are those of the header, as in siftpebble::sys.
+        // SAFETY: the types are those of the header, as in siftpebble::sys; and
+        // a reply need not be set to its end.
         unsafe {
             Calls {
                 bytes: transmute::<*mut c_void, Bytes>(find("siftpebble_desk_bytes")),
@@ -118,7 +135,7 @@ impl Raw {
     /// One of the calls on a key alone: answers its number.
     pub fn page(&mut self, call: Page, class: u64) -> u64 {
         // SAFETY: the desk is lent for the call.
-        unsafe { call(self.desk(), SCHOOL, class) }.number
+        front(unsafe { call(self.desk(), SCHOOL, class) }).0
     }
 
     fn desk(&mut self) -> *mut Desk {
@@ -130,9 +147,10 @@ impl Raw {
         let (given, out) = (given.as_ptr(), out.as_mut_ptr());
         // SAFETY: the desk and both slices are lent for the call, and no two
         // of them overlap.
-        let answer = unsafe { call(self.desk(), SCHOOL, class, rows, given, len, out, room) };
-        assert_eq!(answer.number, 0, "a band is refused");
-        answer.length as usize
+        let reply = unsafe { call(self.desk(), SCHOOL, class, rows, given, len, out, room) };
+        let (number, length) = front(reply);
+        assert_eq!(number, 0, "a band is refused");
+        length as usize
     }
 }
 
@@ -147,8 +165,8 @@ impl Side for Raw {
             Direction::Read => self.calls.open_read,
         };
         // SAFETY: the desk is lent for the call.
-        let answer = unsafe { call(self.desk(), SCHOOL, class, width) };
-        assert_eq!(answer.number, 0, "an open is refused");
+        let reply = unsafe { call(self.desk(), SCHOOL, class, width) };
+        assert_eq!(front(reply).0, 0, "an open is refused");
     }
 
     fn close(&mut self, class: u64) {
@@ -166,8 +184,8 @@ impl Side for Raw {
         let (room, out) = (out.len(), out.as_mut_ptr());
         // SAFETY: the desk and the slice are lent for the call, and they do
         // not overlap.
-        let answer = unsafe { (self.calls.look)(self.desk(), SCHOOL, class, out, room) };
-        assert_eq!(answer.number, 0, "a look is refused");
+        let reply = unsafe { (self.calls.look)(self.desk(), SCHOOL, class, out, room) };
+        assert_eq!(front(reply).0, 0, "a look is refused");
     }
 
     fn write(&mut self, class: u64, rows: u64, pels: &[u8], out: &mut [u8]) -> usize {

@@ -1,7 +1,7 @@
 //! The stack that a call takes: how far down the bytes of a painted stack
 //! change while it runs.
 
-use crate::raw::{Calls, Raw};
+use crate::raw::{Calls, Raw, Reply};
 use crate::side::Side;
 use crate::small::{fill, LEARNED};
 use crate::times::short;
@@ -68,11 +68,12 @@ fn depth(mut work: impl FnMut() + Send) -> usize {
     })
 }
 
-const ACCEPTED: Answer = Answer {
+const ACCEPTED: Reply = Reply::new(Answer {
     number: 0,
     length: 0,
     shifts: 0,
-};
+    revisits: 0,
+});
 
 extern "C" fn no_bytes() -> usize {
     0
@@ -80,7 +81,7 @@ extern "C" fn no_bytes() -> usize {
 
 extern "C" fn no_empty(_: *mut Desk) {}
 
-extern "C" fn no_open(_: *mut Desk, _: u64, _: u64, _: u64) -> Answer {
+extern "C" fn no_open(_: *mut Desk, _: u64, _: u64, _: u64) -> Reply {
     ACCEPTED
 }
 
@@ -93,15 +94,15 @@ extern "C" fn no_band(
     _: usize,
     _: *mut u8,
     _: usize,
-) -> Answer {
+) -> Reply {
     ACCEPTED
 }
 
-extern "C" fn no_page(_: *mut Desk, _: u64, _: u64) -> Answer {
+extern "C" fn no_page(_: *mut Desk, _: u64, _: u64) -> Reply {
     ACCEPTED
 }
 
-extern "C" fn no_look(_: *mut Desk, _: u64, _: u64, _: *mut u8, _: usize) -> Answer {
+extern "C" fn no_look(_: *mut Desk, _: u64, _: u64, _: *mut u8, _: usize) -> Reply {
     ACCEPTED
 }
 

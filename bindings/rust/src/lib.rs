@@ -22,13 +22,16 @@
 //! let pels = [0b0011_1100, 0b0011_0000, 0b0100_0010, 0b0100_0000];
 //! let mut buffer = [0; 64];
 //! desk.open_write(sender, 12)?;
-//! let (code, _shifts) = desk.write_code(sender, 2, &pels, &mut buffer)?;
+//! let (code, written) = desk.write_code(sender, 2, &pels, &mut buffer)?;
 //!
-//! // Read from the same state, the code gives the pels back.
+//! // Read from the same state, the code gives the pels back. It takes as many
+//! // shifts as the write, at as many pels.
 //! let mut rows = [0; 4];
 //! desk.open_read(tablet, 12)?;
-//! desk.read(tablet, 2, code, &mut rows)?;
+//! let read = desk.read(tablet, 2, code, &mut rows)?;
 //! assert_eq!(rows, pels);
+//! assert_eq!(read.shifts, written.shifts);
+//! assert_eq!(read.revisits, written.revisits);
 //!
 //! desk.close(sender)?;
 //! desk.close(tablet)?;
@@ -61,8 +64,12 @@ pub struct Band {
     /// The bytes in the front of the lent buffer: of the code for a write, of
     /// all rows for a read.
     pub length: usize,
-    /// The shifts of the band.
+    /// S, the shifts of the band.
     pub shifts: u64,
+    /// The band's pels whose context's estimate was revisited, that is, which
+    /// made at least one shift: at most `shifts`, and at most all pels of the
+    /// band. A write and the read of its code answer the same.
+    pub revisits: u64,
 }
 
 /// The first `length` bytes of a buffer, or the empty part where that is more
@@ -108,6 +115,7 @@ fn band(answer: Answer) -> Result<Band, Refusal> {
         0 => Ok(Band {
             length: answer.length as usize,
             shifts: answer.shifts,
+            revisits: answer.revisits,
         }),
         number => match Refusal::from_number(number) {
             Some(refusal) => Err(refusal),
@@ -212,7 +220,8 @@ impl Desk {
     /// desk.open_write(key, 1)?;
     /// let mut out = [0xA5; 4];
     /// let band = desk.write(key, 1, &[0], &mut out)?;
-    /// assert_eq!((band.length, band.shifts), (2, 2));
+    /// // both shifts are of one pel
+    /// assert_eq!((band.length, band.shifts, band.revisits), (2, 2, 1));
     /// assert_eq!(front(&out, band.length), [0xAC, 0x10]);
     /// assert_eq!(out, [0xAC, 0x10, 0xA5, 0xA5]);
     /// # Ok(())
@@ -241,17 +250,32 @@ impl Desk {
         })
     }
 
-    /// As [`Desk::write`], but answers the code itself, as the front part of
-    /// the caller's buffer, and the shifts.
+    /// As [`Desk::write`], but answers the code itself too, as the front part
+    /// of the caller's buffer.
+    ///
+    /// ```
+    /// # use siftpebble::{Desk, Key};
+    /// # fn main() -> Result<(), siftpebble::Refusal> {
+    /// let key = Key { school: 1, class: 5 };
+    /// let mut desk = Desk::new();
+    /// desk.open_write(key, 5)?;
+    /// let mut out = [0; 16];
+    /// let (code, band) = desk.write_code(key, 1, &[0], &mut out)?;
+    /// assert_eq!(code.len(), band.length);
+    /// // five white pels: the first made two shifts, and the last none
+    /// assert_eq!((band.shifts, band.revisits), (5, 4));
+    /// # Ok(())
+    /// # }
+    /// ```
     pub fn write_code<'a>(
         &mut self,
         key: Key,
         rows: u64,
         pels: &[u8],
         out: &'a mut [u8],
-    ) -> Result<(&'a [u8], u64), Refusal> {
+    ) -> Result<(&'a [u8], Band), Refusal> {
         let band = self.write(key, rows, pels, out)?;
-        Ok((front(out, band.length), band.shifts))
+        Ok((front(out, band.length), band))
     }
 
     /// Reads the code of a band of 1 to [`MAX_ROWS`] rows: the packed rows come

@@ -15,6 +15,7 @@ pub struct Answer {
     pub number: u64,
     pub length: u64,
     pub shifts: u64,
+    pub revisits: u64,
 }
 
 extern "C" {

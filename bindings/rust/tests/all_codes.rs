@@ -1,9 +1,10 @@
 //! From a new page, for every size of up to 8 pels: all codes of up to so many
-//! bytes are read, and exactly as many are accepted as bands are written so;
-//! exactly those with a marker are refused as such. The same of some longer
-//! codes, for a size at which one has a last FF.
+//! bytes are read, and exactly as many are accepted as bands are written so,
+//! with the counts that the write answered; exactly those with a marker are
+//! refused as such. The same of some longer codes, for a size at which one has
+//! a last FF.
 
-use siftpebble::{Desk, Key, Refusal};
+use siftpebble::{Band, Desk, Key, Refusal};
 use siftpebble_model::band::has_marker;
 use std::collections::BTreeMap;
 use std::thread;
@@ -29,28 +30,43 @@ fn band(number: u32, width: usize, rows: usize) -> Vec<u8> {
     (0..rows).map(|y| row(y) << (8 - width)).collect()
 }
 
+/// What a write was given and a read gives back, the rows a byte each, and what
+/// both answer of it.
+#[derive(Debug, PartialEq)]
+struct Sent {
+    pels: Vec<u8>,
+    shifts: u64,
+    revisits: u64,
+}
+
 /// The codes of all bands of a size.
-fn codes(width: usize, rows: usize) -> BTreeMap<Vec<u8>, Vec<u8>> {
+fn codes(width: usize, rows: usize) -> BTreeMap<Vec<u8>, Sent> {
     let write = |number| {
         let pels = band(number, width, rows);
         let mut desk = Desk::new();
         desk.open_write(KEY, width as u64).unwrap();
         let mut out = [0; 16];
-        let length = desk
-            .write(KEY, rows as u64, &pels, &mut out)
-            .unwrap()
-            .length;
-        (out[..length].to_vec(), pels)
+        let written = desk.write_code(KEY, rows as u64, &pels, &mut out);
+        let (code, band) = written.unwrap();
+        (code.to_vec(), sent(pels, band))
     };
     (0..1 << (width * rows)).map(write).collect()
 }
 
-/// The rows of a code, a byte each; none of one that is refused, which it is
-/// for its marker if it has one.
-fn read(desk: &mut Desk, rows: usize, code: &[u8]) -> Option<Vec<u8>> {
+fn sent(pels: Vec<u8>, band: Band) -> Sent {
+    Sent {
+        pels,
+        shifts: band.shifts,
+        revisits: band.revisits,
+    }
+}
+
+/// What a code gives back; nothing where it is refused, which it is for its
+/// marker if it has one.
+fn read(desk: &mut Desk, rows: usize, code: &[u8]) -> Option<Sent> {
     let mut out = [0; 8];
     match desk.read(KEY, rows as u64, code, &mut out) {
-        Ok(_) => Some(out[..rows].to_vec()),
+        Ok(band) => Some(sent(out[..rows].to_vec(), band)),
         Err(refusal) => {
             let expected = match has_marker(code) {
                 true => Refusal::Marker,
@@ -75,8 +91,8 @@ fn exactly_the_bands(width: usize, rows: usize, bytes: usize) -> usize {
     for length in 0..=bytes {
         for number in 0..1u32 << (8 * length) {
             let code = &number.to_be_bytes()[4 - length..];
-            if let Some(pels) = read(&mut desk, rows, code) {
-                assert_eq!(codes[code], pels);
+            if let Some(sent) = read(&mut desk, rows, code) {
+                assert_eq!(codes[code], sent);
                 accepted += 1;
                 desk = reading(width);
             }
@@ -118,8 +134,8 @@ fn of_two_bytes_and_an_ff() {
     for front in 0..=u16::MAX {
         for ending in ENDINGS {
             let code = [&front.to_be_bytes(), ending].concat();
-            if let Some(pels) = read(&mut desk, rows, &code) {
-                accepted.insert(code, pels);
+            if let Some(sent) = read(&mut desk, rows, &code) {
+                accepted.insert(code, sent);
                 desk = reading(width);
             }
         }

@@ -1,13 +1,16 @@
 //! The C example, compiled as C and as C++ and linked with the archive; and
-//! the numbers of the header, which are the crate's.
+//! the numbers and the answer of the header, which are the crate's.
 
+use siftpebble::sys::Answer;
 use std::env;
+use std::mem::{offset_of, size_of};
 use std::path::{Path, PathBuf};
 use std::process::Command;
 
 const EXPECTED: &str = "\
 P1: AC 10 S=2
 P7: A8 10 S=2
+revisited: 2 pels
 learned: 04 at context 0
 last FF: 15 6E FF 00 S=12
 marker: refused 15
@@ -151,14 +154,11 @@ fn the_header_and_the_crate_have_the_same_limits() {
     assert_eq!(names(include_str!("../src/limits.rs"), "pub const "), here);
 }
 
-/// The compilers find each of the header's limits equal to the crate's.
-#[test]
-fn the_limits_are_equal() {
-    let equal = |(name, value)| {
-        format!("static_assert(SIFTPEBBLE_{name} == {value}, \"{name} is not {value}\");\n")
-    };
-    let lines: String = LIMITS.into_iter().map(equal).collect();
-    let source = own_file("limits.c");
+/// The compilers find all of these true of the header.
+fn assert_of_header(name: &str, claims: &[String]) {
+    let line = |claim: &String| format!("static_assert({claim}, \"{claim}\");\n");
+    let lines: String = claims.iter().map(line).collect();
+    let source = own_file(name);
     let text = format!("#include \"siftpebble.h\"\n#include <assert.h>\n{lines}");
     std::fs::write(&source, text).expect("a file");
     for language in [C, CPP] {
@@ -166,4 +166,36 @@ fn the_limits_are_equal() {
         let status = compiler.arg("-fsyntax-only").status().expect("a compiler");
         assert!(status.success(), "{}", language.name);
     }
+}
+
+/// Each of the header's limits is equal to the crate's.
+#[test]
+fn the_limits_are_equal() {
+    let equal = |(name, value)| format!("SIFTPEBBLE_{name} == {value}");
+    assert_of_header("limits.c", &LIMITS.map(equal));
+}
+
+/// The fields of the crate's answer and their places. All of them are named,
+/// and each is a u64.
+macro_rules! fields {
+    ($($name:ident)*) => {{
+        let _all = |Answer { $($name),* }: Answer| -> [u64; 4] { [$($name),*] };
+        [$((stringify!($name), offset_of!(Answer, $name))),*]
+    }};
+}
+
+/// The header's answer has the crate's fields, each at its place, and no more.
+#[test]
+fn the_answers_are_equal() {
+    let (whole, each) = (size_of::<Answer>(), size_of::<u64>());
+    let mut claims = vec![format!("sizeof(struct siftpebble_answer) == {whole}")];
+    for (name, place) in fields![number length shifts revisits] {
+        claims.push(format!(
+            "offsetof(struct siftpebble_answer, {name}) == {place}"
+        ));
+        claims.push(format!(
+            "sizeof(((struct siftpebble_answer *)0)->{name}) == {each}"
+        ));
+    }
+    assert_of_header("answer.c", &claims);
 }

@@ -7,32 +7,35 @@ const KEY: Key = Key {
     class: 5,
 };
 
-/// Writes bands to a new page of this width; answers the last one's code and S.
-fn write(width: u64, bands: &[(u64, &[u8])]) -> (Vec<u8>, u64) {
+/// Writes bands to a new page of this width; answers the last one's code, S and
+/// the pels revisited.
+fn write(width: u64, bands: &[(u64, &[u8])]) -> (Vec<u8>, u64, u64) {
     let mut desk = Desk::new();
     desk.open_write(KEY, width).expect("an empty desk");
     let mut last = Default::default();
     for (rows, pels) in bands {
         let mut out = [0xA5; 16];
-        let (code, shifts) = desk.write_code(KEY, *rows, pels, &mut out).expect("room");
-        last = (code.to_vec(), shifts);
+        let (code, band) = desk.write_code(KEY, *rows, pels, &mut out).expect("room");
+        assert_eq!(code.len(), band.length);
+        last = (code.to_vec(), band.shifts, band.revisits);
     }
     last
 }
 
 #[test]
 fn bands_worked_by_hand() {
-    assert_eq!(write(1, &[(1, &[0x00])]), (vec![0xAC, 0x10], 2), "P1");
-    assert_eq!(write(1, &[(1, &[0x80])]), (vec![0x00, 0x00], 1), "P2");
-    assert_eq!(write(2, &[(1, &[0x00])]), (vec![0xD6, 0x14], 3), "P3");
-    assert_eq!(write(2, &[(1, &[0x40])]), (vec![0xAC, 0x10], 3), "P4");
-    assert_eq!(write(2, &[(1, &[0x80])]), (vec![0x56, 0x08], 2), "P5");
-    assert_eq!(write(2, &[(1, &[0xC0])]), (vec![0x00, 0x00], 2), "P6");
+    assert_eq!(write(1, &[(1, &[0x00])]), (vec![0xAC, 0x10], 2, 1), "P1");
+    assert_eq!(write(1, &[(1, &[0x80])]), (vec![0x00, 0x00], 1, 1), "P2");
+    assert_eq!(write(2, &[(1, &[0x00])]), (vec![0xD6, 0x14], 3, 2), "P3");
+    assert_eq!(write(2, &[(1, &[0x40])]), (vec![0xAC, 0x10], 3, 2), "P4");
+    assert_eq!(write(2, &[(1, &[0x80])]), (vec![0x56, 0x08], 2, 2), "P5");
+    assert_eq!(write(2, &[(1, &[0xC0])]), (vec![0x00, 0x00], 2, 2), "P6");
     let p7: [(u64, &[u8]); 2] = [(1, &[0x00]), (1, &[0x00])];
-    assert_eq!(write(1, &p7), (vec![0xA8, 0x10], 2), "P7");
-    assert_eq!(write(1, &[(2, &[0x00, 0x00])]), (vec![0xD6, 0x14], 3), "P8");
+    assert_eq!(write(1, &p7), (vec![0xA8, 0x10], 2, 1), "P7");
+    let p8: [(u64, &[u8]); 1] = [(2, &[0x00, 0x00])];
+    assert_eq!(write(1, &p8), (vec![0xD6, 0x14], 3, 2), "P8");
     let p9: [(u64, &[u8]); 2] = [(1, &[0x80]), (1, &[0x80])];
-    assert_eq!(write(1, &p9), (vec![0x00, 0x00], 1), "P9");
+    assert_eq!(write(1, &p9), (vec![0x00, 0x00], 1, 1), "P9");
 }
 
 #[test]
@@ -49,6 +52,7 @@ fn p11_damaged_codes() {
     let band = Band {
         length: 1,
         shifts: 1,
+        revisits: 1,
     };
     assert_eq!(desk.read(KEY, 1, &[0, 0], &mut out), Ok(band));
     assert_eq!(out, [0x80, 0xA5, 0xA5]);
@@ -58,18 +62,18 @@ fn p11_damaged_codes() {
 #[test]
 fn a_last_ff_has_its_00() {
     let code = vec![0x15, 0x6E, 0xFF, 0x00];
-    assert_eq!(write(13, &[(1, &[0xE6, 0x60])]), (code, 12));
+    assert_eq!(write(13, &[(1, &[0xE6, 0x60])]), (code, 12, 12));
     let code = vec![0xE0, 0xBD, 0xFF, 0x00];
-    assert_eq!(write(4, &[(3, &[0x30, 0x00, 0x00])]), (code, 12));
+    assert_eq!(write(4, &[(3, &[0x30, 0x00, 0x00])]), (code, 12, 11));
     let code = vec![0xFF, 0x7F, 0xFF, 0x6A, 0xFF, 0x00];
-    assert_eq!(write(990, &[(1, &[0x00; 124])]), (code, 26));
+    assert_eq!(write(990, &[(1, &[0x00; 124])]), (code, 26, 25));
 }
 
 /// The same bytes where the bits go on after the FF: nothing follows the 00.
 #[test]
 fn an_ff_before_the_last_byte() {
     let code = vec![0x15, 0x6E, 0xFF, 0x00];
-    assert_eq!(write(14, &[(1, &[0xE6, 0x60])]), (code, 13));
+    assert_eq!(write(14, &[(1, &[0xE6, 0x60])]), (code, 13, 13));
 }
 
 /// The 00 counts in the length and needs its room.
@@ -85,6 +89,7 @@ fn a_last_ff_into_four_bytes_and_three() {
     let band = Band {
         length: 4,
         shifts: 12,
+        revisits: 12,
     };
     assert_eq!((answer, four), (Ok(band), [0x15, 0x6E, 0xFF, 0x00]));
 }
@@ -105,6 +110,7 @@ fn a_wrong_end_is_damaged() {
     let band = Band {
         length: 2,
         shifts: 12,
+        revisits: 12,
     };
     assert_eq!((answer, out), (Ok(band), [0xE6, 0x60, 0xA5]));
 }

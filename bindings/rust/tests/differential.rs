@@ -1,5 +1,6 @@
-//! The library against the model, call by call: every answer, every byte of
-//! every lent buffer, and the whole desk.
+//! The library against the model, call by call: every number of every answer,
+//! every byte of every lent buffer, and the whole desk. In the runs of calls
+//! the safe desk comes along.
 //!
 //! The seeds are fixed. `SIFTPEBBLE_TIMES=n` tries n times as much, and
 //! `SIFTPEBBLE_SEED=n` something else.
@@ -7,7 +8,7 @@
 mod common;
 
 use common::layout::{desk_image, desk_of, Image};
-use common::library::Library;
+use common::library::{Library, Safe};
 use common::setting;
 use siftpebble_model::band::{self, row_bytes, State, MAX_CODE, MAX_ROWS, MAX_WIDTH};
 use siftpebble_model::call::{Act, Answer, Call, Outcome, Serve};
@@ -49,6 +50,23 @@ impl std::ops::AddAssign for Rare {
     }
 }
 
+/// Bands whose pels revisited (request E11) are fewer than S, fewer than all
+/// pels, or some although no table byte changed.
+#[derive(Default)]
+struct Revisits {
+    below_shifts: u64,
+    below_pels: u64,
+    without_a_change: u64,
+}
+
+impl std::ops::AddAssign for Revisits {
+    fn add_assign(&mut self, more: Revisits) {
+        self.below_shifts += more.below_shifts;
+        self.below_pels += more.below_pels;
+        self.without_a_change += more.without_a_change;
+    }
+}
+
 /// The kinds of call, and the numbers that each can answer.
 const KINDS: [(&str, &[usize]); 7] = [
     ("open", &[0, 12, 1, 6, 3, 4, 5]),
@@ -82,6 +100,7 @@ struct Report {
     answers: [[u64; NUMBERS]; KINDS.len()],
     ff_bytes: u64,
     rare: Rare,
+    revisits: Revisits,
 }
 
 impl std::ops::AddAssign for Report {
@@ -92,6 +111,7 @@ impl std::ops::AddAssign for Report {
         }
         self.ff_bytes += more.ff_bytes;
         self.rare += more.rare;
+        self.revisits += more.revisits;
     }
 }
 
@@ -100,7 +120,8 @@ impl Report {
         self.answers[kind(&call.act)][answer.number as usize] += 1;
     }
 
-    /// How often each number was answered, and each rare thing in a code seen.
+    /// How often each number was answered, and each rare thing in a code or of
+    /// a band's counts seen.
     fn lines(&self) -> Vec<(String, u64)> {
         let all = |number: usize| self.answers.iter().map(|kind| kind[number]).sum();
         let mut lines = vec![("accepted calls".to_string(), all(0))];
@@ -117,6 +138,18 @@ impl Report {
         lines.push(("carries into a stuff bit".into(), stuff_carries));
         lines.push(("FE turned into FF by a carry".into(), spent_carries));
         lines.push(("00 after a last FF".into(), last_ffs));
+        let Revisits {
+            below_shifts,
+            below_pels,
+            without_a_change,
+        } = self.revisits;
+        let bands = |which: &str| format!("bands with {which}");
+        lines.push((bands("more shifts than pels revisited"), below_shifts));
+        lines.push((bands("a pel that is not revisited"), below_pels));
+        lines.push((
+            bands("a pel revisited, and no table byte changed"),
+            without_a_change,
+        ));
         lines
     }
 
@@ -133,14 +166,41 @@ impl Report {
     }
 }
 
-/// Serves a call on the model, and looks into the code of a write.
+/// Serves a call on the model, and looks into the code and the counts of a
+/// band.
 fn expected(desk: &mut Desk, call: &Call, report: &mut Report) -> Outcome {
-    let Act::Write { rows, pels, lent } = &call.act else {
-        return desk.serve(call);
+    let before = desk.page(call.key).cloned();
+    let (rows, outcome) = match &call.act {
+        Act::Write { rows, pels, lent } => {
+            let outcome = expected_write(desk, call.key, *rows, pels, lent, report);
+            (rows, outcome)
+        }
+        Act::Read { rows, .. } => (rows, desk.serve(call)),
+        _ => return desk.serve(call),
     };
-    let mut lent = lent.clone();
+    let answer = outcome.answer;
+    if let (0, Some(before), Some(after)) = (answer.number, before, desk.page(call.key)) {
+        let same_table = before.state.table == after.state.table;
+        report.revisits += Revisits {
+            below_shifts: u64::from(answer.revisits < answer.shifts),
+            below_pels: u64::from(answer.revisits < rows * before.width),
+            without_a_change: u64::from(answer.revisits > 0 && same_table),
+        };
+    }
+    outcome
+}
+
+fn expected_write(
+    desk: &mut Desk,
+    key: Key,
+    rows: u64,
+    pels: &[u8],
+    lent: &[u8],
+    report: &mut Report,
+) -> Outcome {
+    let mut lent = lent.to_vec();
     let mut rare = Rare::default();
-    let result = desk.write_watched(call.key, *rows, pels, &mut lent, &mut rare);
+    let result = desk.write_watched(key, rows, pels, &mut lent, &mut rare);
     if let Ok(band) = result {
         let code = lent[..band.length].iter();
         report.ff_bytes += code.filter(|&&byte| byte == 0xFF).count() as u64;
@@ -151,8 +211,8 @@ fn expected(desk: &mut Desk, call: &Call, report: &mut Report) -> Outcome {
 }
 
 /// One call on both: they answer alike, and leave the same lent bytes and the
-/// same desk.
-fn compare(desk: &mut Desk, library: &mut Library, call: &Call, report: &mut Report) {
+/// same desk. Answers the outcome.
+fn compare(desk: &mut Desk, library: &mut Library, call: &Call, report: &mut Report) -> Outcome {
     let expected = expected(desk, call, report);
     report.count(call, expected.answer);
     let outcome = library.serve(call);
@@ -161,6 +221,7 @@ fn compare(desk: &mut Desk, library: &mut Library, call: &Call, report: &mut Rep
         desk_image(desk).is_in(&library.bytes()),
         "the desks differ after {call:?}"
     );
+    outcome
 }
 
 /// The same call on bytes that are no lawful desk: refused 12, and nothing
@@ -180,16 +241,18 @@ fn compare_unlawful(library: &mut Library, call: &Call, report: &mut Report) {
     report.count(call, refusal);
 }
 
-/// Runs of calls from an empty desk, over several keys.
+/// Runs of calls from an empty desk, over several keys, on the safe desk too.
 fn runs_of_calls(seed: u64, times: u64, report: &mut Report) {
     for number in 0..2000 * times {
         let mut run = Run::new(seed + number);
         let mut desk = Desk::default();
         let mut library = Library::empty();
+        let mut safe = Safe::empty();
         assert!(desk_image(&desk).is_in(&library.bytes()), "no empty desk");
         for _ in 0..150 {
             let call = run.next(&desk);
-            compare(&mut desk, &mut library, &call, report);
+            let outcome = compare(&mut desk, &mut library, &call, report);
+            assert_eq!(safe.serve(&call), outcome, "the safe desk: {call:?}");
         }
     }
 }
@@ -360,7 +423,9 @@ fn call_on(bytes: &[u8], like: &Desk, run: &mut Run, report: &mut Report) {
     let mut library = Library::of(bytes);
     let call = run.next(like);
     match desk_of(bytes) {
-        Some(mut desk) => compare(&mut desk, &mut library, &call, report),
+        Some(mut desk) => {
+            compare(&mut desk, &mut library, &call, report);
+        }
         None => compare_unlawful(&mut library, &call, report),
     }
 }

@@ -9,7 +9,7 @@ sift packs black-and-white pages and reads them back, each class with its learne
 
   sift pack PAGE.pbm... -o FILE    packs pages into one file
   sift unpack FILE -o DIR          reads them back
-  sift show FILE                   lists pages, bands, bytes and S, and so checks the file
+  sift show FILE                   lists pages, bands, bytes and counts, and so checks the file
   sift look FILE                   prints the table that the class learned
   sift JOB --help                  says more of a job
   sift --version
@@ -81,7 +81,9 @@ pub const SHOW: &str = "\
 sift show [--bands] [--quiet] FILE
 
 Reads every band of a packed file (- for standard input) and lists the pages: their bands, the
-bytes of their rows and of their codes, S, and what the codes save beside the rows.
+bytes of their rows and of their codes, S, the revisits, and what the codes save beside the rows.
+S is the number of shifts. The revisits are the pels that made at least one shift, each of which
+had the class's estimate for such a pel revisited.
 
   --bands      lists every band too
   --quiet      shows no progress on the terminal

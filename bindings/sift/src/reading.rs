@@ -7,7 +7,7 @@ use crate::failure::Failure;
 use crate::frame::Record;
 use crate::input::Input;
 use crate::progress::Progress;
-use siftpebble::{first_marker, front, Desk, Refusal, MAX_BAND_BYTES};
+use siftpebble::{first_marker, front, Band, Desk, Refusal, MAX_BAND_BYTES};
 
 /// A packed file and its bytes.
 pub struct Packed<'a> {
@@ -21,8 +21,8 @@ pub struct Whole<'a> {
     pub number: usize,
     pub record: &'a Record,
     pub rows: Vec<u8>,
-    /// S of each band.
-    pub shifts: Vec<u64>,
+    /// What the read of each band answered.
+    pub bands: Vec<Band>,
 }
 
 impl<'a> Packed<'a> {
@@ -80,7 +80,7 @@ impl<'a> Packed<'a> {
         let place = format!("page {number} ({})", record.name);
         let refused = |refusal| vec![format!("{place}: {refusal}")];
         desk.open_read(key, record.width as u64).map_err(refused)?;
-        let (rows, shifts) = self.bands(desk, page, &place, progress)?;
+        let (rows, bands) = self.bands(desk, page, &place, progress)?;
         if crc32(&rows) != record.sum {
             let fault = "the rows are not those that were packed: their checksum differs";
             return Err(vec![format!("{place}: {fault}")]);
@@ -90,20 +90,20 @@ impl<'a> Packed<'a> {
             number,
             record,
             rows,
-            shifts,
+            bands,
         })
     }
 
-    /// Reads the bands of an open page: all rows, and S of each band.
+    /// Reads the bands of an open page: all rows, and what each band answered.
     fn bands(
         &self,
         desk: &mut Desk,
         page: &Page,
         place: &str,
         progress: &mut Progress,
-    ) -> Result<(Vec<u8>, Vec<u64>), Vec<String>> {
+    ) -> Result<(Vec<u8>, Vec<Band>), Vec<String>> {
         let (header, record) = (&self.contents.header, &page.record);
-        let (mut rows, mut shifts) = (Vec::new(), Vec::new());
+        let (mut rows, mut answers) = (Vec::new(), Vec::new());
         let mut buffer = [0; MAX_BAND_BYTES];
         let mut codes = &self.bytes[page.codes.clone()];
         let bands = record.lengths.len();
@@ -114,7 +114,7 @@ impl<'a> Packed<'a> {
             match desk.read(header.key, height as u64, code, &mut buffer) {
                 Ok(band) => {
                     rows.extend_from_slice(front(&buffer, band.length));
-                    shifts.push(band.shifts);
+                    answers.push(band);
                 }
                 Err(refusal) => {
                     let why = said_of(refusal, code);
@@ -122,7 +122,7 @@ impl<'a> Packed<'a> {
                 }
             }
         }
-        Ok((rows, shifts))
+        Ok((rows, answers))
     }
 
     /// What is said of the pages after a refused one.

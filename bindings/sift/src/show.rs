@@ -1,5 +1,6 @@
-//! `sift show`: what is in a packed file. Every band is read, since S comes
-//! from reading; so this also tells whether the file is whole.
+//! `sift show`: what is in a packed file. Every band is read, since S and the
+//! pels revisited come from reading; so this also tells whether the file is
+//! whole.
 
 use crate::args::Show;
 use crate::failure::Failure;
@@ -25,33 +26,52 @@ pub fn run(job: &Show) -> Result<(), Failure> {
     read
 }
 
-/// What is counted over the pages that came back.
+/// The counts of one page, or of more.
 #[derive(Default)]
-struct Total {
-    pages: usize,
+struct Counts {
     bands: usize,
     raw: usize,
     code: usize,
     shifts: u64,
+    revisits: u64,
+}
+
+impl Counts {
+    fn of(page: &Whole) -> Self {
+        Counts {
+            bands: page.bands.len(),
+            raw: page.record.raw_bytes(),
+            code: page.record.code_bytes(),
+            shifts: page.bands.iter().map(|band| band.shifts).sum(),
+            revisits: page.bands.iter().map(|band| band.revisits).sum(),
+        }
+    }
+}
+
+/// What is counted over the pages that came back.
+#[derive(Default)]
+struct Total {
+    pages: usize,
+    counts: Counts,
 }
 
 impl Total {
     fn add(&mut self, page: &Whole) {
+        let more = Counts::of(page);
         self.pages += 1;
-        self.bands += page.shifts.len();
-        self.raw += page.record.raw_bytes();
-        self.code += page.record.code_bytes();
-        self.shifts += page.shifts.iter().sum::<u64>();
+        self.counts.bands += more.bands;
+        self.counts.raw += more.raw;
+        self.counts.code += more.code;
+        self.counts.shifts += more.shifts;
+        self.counts.revisits += more.revisits;
     }
 
     fn lines(&self, file: usize) -> String {
-        let last = saving(self.raw, self.code);
-        let counts = [self.bands, self.raw, self.code];
         let pages = match self.pages {
             1 => "1 page".to_string(),
             pages => format!("{pages} pages"),
         };
-        let total = line("total", &pages, counts, self.shifts, &last, "");
+        let total = line("total", &pages, &self.counts, "");
         format!("{total}The file has {file} bytes, its frame among them.\n")
     }
 }
@@ -61,49 +81,51 @@ fn head(packed: &Packed) -> String {
     let (school, class) = (key.school, key.class);
     format!(
         "{}: school {school}, class {class}, bands of {rows} rows, pages: {pages}\n\
-         {:>5} {:>12} {:>6} {:>10} {:>10} {:>10} {:>8}  {}\n",
-        packed.input, "page", "pels", "bands", "raw bytes", "code bytes", "S", "saving", "name"
+         {:>5} {:>12} {:>6} {:>10} {:>10} {:>10} {:>10} {:>8}  {}\n",
+        packed.input,
+        "page",
+        "pels",
+        "bands",
+        "raw bytes",
+        "code bytes",
+        "S",
+        "revisits",
+        "saving",
+        "name"
     )
 }
 
 fn page_line(page: &Whole) -> String {
     let record = page.record;
     let pels = format!("{} x {}", record.width, record.height);
-    let (raw, code) = (record.raw_bytes(), record.code_bytes());
-    let counts = [page.shifts.len(), raw, code];
-    let shifts = page.shifts.iter().sum();
     let number = page.number.to_string();
-    line(
-        &number,
-        &pels,
-        counts,
-        shifts,
-        &saving(raw, code),
-        &record.name,
-    )
+    line(&number, &pels, &Counts::of(page), &record.name)
 }
 
-/// One line for each band: its rows, its code's bytes and S.
+/// One line for each band: its rows, its code's bytes, S and the pels revisited.
 fn band_lines(page: &Whole, header: &Header) -> String {
     let rows = page.record.band_rows(header.rows);
-    let facts = rows.zip(&page.record.lengths).zip(&page.shifts);
-    let band_line = |(index, ((rows, bytes), shifts))| {
-        let band = index + 1;
-        format!("      band {band}: rows {rows}, code bytes {bytes}, S {shifts}\n")
-    };
-    facts.enumerate().map(band_line).collect()
+    let facts = rows.zip(&page.record.lengths).zip(&page.bands);
+    let mut lines = String::new();
+    for (index, ((rows, bytes), answer)) in facts.enumerate() {
+        let (band, shifts, revisits) = (index + 1, answer.shifts, answer.revisits);
+        let counts = format!("S {shifts}, revisits {revisits}");
+        lines += &format!("      band {band}: rows {rows}, code bytes {bytes}, {counts}\n");
+    }
+    lines
 }
 
-fn line(
-    page: &str,
-    pels: &str,
-    [bands, raw, code]: [usize; 3],
-    shifts: u64,
-    saving: &str,
-    name: &str,
-) -> String {
-    let line =
-        format!("{page:>5} {pels:>12} {bands:>6} {raw:>10} {code:>10} {shifts:>10} {saving:>8}");
+fn line(page: &str, pels: &str, counts: &Counts, name: &str) -> String {
+    let Counts {
+        bands,
+        raw,
+        code,
+        shifts,
+        revisits,
+    } = counts;
+    let saving = saving(*raw, *code);
+    let counts = format!("{bands:>6} {raw:>10} {code:>10} {shifts:>10} {revisits:>10}");
+    let line = format!("{page:>5} {pels:>12} {counts} {saving:>8}");
     match name {
         "" => format!("{line}\n"),
         _ => format!("{line}  {name}\n"),

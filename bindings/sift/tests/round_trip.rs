@@ -208,7 +208,7 @@ fn a_last_ff_has_its_00() {
     assert!(file.ends_with(b"\x15\x6E\xFF\x00END\n"));
     assert_eq!(file, packed(KEY, 64, &[("page.pbm", &sheet)]).file);
     let shown = sift(&dir, &["show", "--bands", "-"], &file).fine();
-    let line = "band 1: rows 1, code bytes 4, S 12\n";
+    let line = "band 1: rows 1, code bytes 4, S 12, revisits 12\n";
     assert!(shown.text().contains(line));
     let back = sift(&dir, &["unpack", "-", "-o", "-"], &file).fine();
     assert_eq!(back.stdout, sheet.p4());
@@ -220,36 +220,63 @@ fn saving(raw: usize, code: usize) -> String {
 }
 
 #[test]
-fn show_tells_bytes_and_shifts() {
+fn show_tells_bytes_and_counts() {
     let dir = directory("show");
     let mut random = Random::new(7);
     let first = Sheet::random(&mut random, 100, 70);
     let second = Sheet::random(&mut random, 20, 5);
     let model = packed(KEY, 64, &[("a.pbm", &first), ("b b.pbm", &second)]);
-    let (mut expected, mut totals) = (Vec::new(), (0, 0));
+    let mut expected = vec!["page pels bands raw bytes code bytes S revisits saving name".into()];
+    let mut totals = (0, 0, 0);
     let facts = ["1 100 x 70 2 910", "2 20 x 5 1 15"];
     for ((start, name), bands) in facts.iter().zip(["a.pbm", "b b.pbm"]).zip(&model.bands) {
         let code: usize = bands.iter().map(|band| band.1.len()).sum();
-        let shifts: u64 = bands.iter().map(|band| band.2).sum();
+        let shifts: u64 = bands.iter().map(|band| band.2.shifts).sum();
+        let revisits: u64 = bands.iter().map(|band| band.2.revisits).sum();
+        assert_ne!(shifts, revisits, "one column is not the other");
         let raw = start.rsplit(' ').next().expect("a word");
         let saving = saving(raw.parse().expect("a number"), code);
-        expected.push(format!("{start} {code} {shifts} {saving} {name}"));
-        for (index, (rows, code, shifts)) in bands.iter().enumerate() {
+        expected.push(format!(
+            "{start} {code} {shifts} {revisits} {saving} {name}"
+        ));
+        for (index, (rows, code, answer)) in bands.iter().enumerate() {
             let (band, bytes) = (index + 1, code.len());
+            let counts = format!("S {}, revisits {}", answer.shifts, answer.revisits);
             expected.push(format!(
-                "band {band}: rows {rows}, code bytes {bytes}, S {shifts}"
+                "band {band}: rows {rows}, code bytes {bytes}, {counts}"
             ));
         }
-        totals = (totals.0 + code, totals.1 + shifts);
+        totals = (totals.0 + code, totals.1 + shifts, totals.2 + revisits);
     }
-    let (code, shifts, saving) = (totals.0, totals.1, saving(925, totals.0));
-    expected.push(format!("total 2 pages 3 925 {code} {shifts} {saving}"));
+    let (code, shifts, revisits) = totals;
+    let saving = saving(925, code);
+    expected.push(format!(
+        "total 2 pages 3 925 {code} {shifts} {revisits} {saving}"
+    ));
     let bytes = model.file.len();
     expected.push(format!("The file has {bytes} bytes, its frame among them."));
     let ran = sift(&dir, &["show", "--bands", "-"], &model.file).fine();
     let squeezed = |line: &str| line.split_whitespace().collect::<Vec<_>>().join(" ");
-    let lines: Vec<_> = ran.text().lines().skip(2).map(squeezed).collect();
+    let lines: Vec<_> = ran.text().lines().skip(1).map(squeezed).collect();
     assert_eq!(lines, expected);
+}
+
+/// The numbers of the pages and of the total end where the names of their
+/// columns do.
+#[test]
+fn show_has_columns() {
+    let dir = directory("columns");
+    let sheet = Sheet::random(&mut Random::new(9), 300, 200);
+    let model = packed(KEY, 64, &[("a", &sheet), ("b", &sheet)]);
+    let ran = sift(&dir, &["show", "-"], &model.file).fine();
+    let lines: Vec<_> = ran.text().lines().skip(1).collect();
+    let (head, rows) = (lines[0], &lines[1..4]);
+    for name in [" bands", " raw bytes", " code bytes", " S", " revisits"] {
+        let end = head.find(name).expect("a column") + name.len();
+        for row in rows.iter().map(|row| row.as_bytes()) {
+            assert!(row[end - 1].is_ascii_digit() && row[end] == b' ', "{name}");
+        }
+    }
 }
 
 #[test]

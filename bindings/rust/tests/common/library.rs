@@ -1,7 +1,7 @@
 //! The library as something that serves calls: once through the calls of the
 //! archive as they are, once through the safe desk.
 
-use siftpebble::{sys, Refusal};
+use siftpebble::{sys, Band, Refusal};
 use siftpebble_model::call::{Act, Answer, Call, Outcome, Serve};
 use siftpebble_model::{Direction, Key};
 
@@ -120,13 +120,20 @@ impl Serve for Library {
         };
         let mut input = Guarded::new(given);
         let mut lent = Guarded::new(call.act.lent());
-        let answer = self.call(call, input.bytes(), lent.bytes());
+        // each number by its name, so that none is left out
+        let sys::Answer {
+            number,
+            length,
+            shifts,
+            revisits,
+        } = self.call(call, input.bytes(), lent.bytes());
         assert_eq!(input.release(), given, "the input has changed");
         Outcome {
             answer: Answer {
-                number: answer.number,
-                length: answer.length,
-                shifts: answer.shifts,
+                number,
+                length,
+                shifts,
+                revisits,
             },
             lent: lent.release(),
         }
@@ -136,15 +143,28 @@ impl Serve for Library {
 /// The safe desk.
 pub struct Safe(siftpebble::Desk);
 
-fn answer(result: Result<(usize, u64), Refusal>) -> Answer {
-    let (number, (length, shifts)) = match result {
+/// What a refusal answers, and a call that is no band.
+const NOTHING: Band = Band {
+    length: 0,
+    shifts: 0,
+    revisits: 0,
+};
+
+fn answer(result: Result<Band, Refusal>) -> Answer {
+    let (number, band) = match result {
         Ok(band) => (0, band),
-        Err(refusal) => (refusal.number(), (0, 0)),
+        Err(refusal) => (refusal.number(), NOTHING),
     };
+    let Band {
+        length,
+        shifts,
+        revisits,
+    } = band;
     Answer {
         number,
         length: length as u64,
         shifts,
+        revisits,
     }
 }
 
@@ -158,17 +178,20 @@ impl Serve for Safe {
         let (desk, key) = (&mut self.0, siftpebble::Key { school, class });
         let mut lent = call.act.lent().to_vec();
         let out = &mut lent[..];
-        let nothing = |()| (0, 0);
-        let band = |band: siftpebble::Band| (band.length, band.shifts);
+        let nothing = |()| NOTHING;
+        let table = |()| Band {
+            length: siftpebble::TABLE_BYTES,
+            ..NOTHING
+        };
         let answer = answer(match &call.act {
             Act::Open(Direction::Write, width) => desk.open_write(key, *width).map(nothing),
             Act::Open(Direction::Read, width) => desk.open_read(key, *width).map(nothing),
-            Act::Write { rows, pels, .. } => desk.write(key, *rows, pels, out).map(band),
-            Act::Read { rows, code, .. } => desk.read(key, *rows, code, out).map(band),
+            Act::Write { rows, pels, .. } => desk.write(key, *rows, pels, out),
+            Act::Read { rows, code, .. } => desk.read(key, *rows, code, out),
             Act::Close => desk.close(key).map(nothing),
             Act::Abandon => desk.abandon(key).map(nothing),
             Act::Drop => desk.forget(key).map(nothing),
-            Act::Look { .. } => desk.look(key, out).map(|()| (siftpebble::TABLE_BYTES, 0)),
+            Act::Look { .. } => desk.look(key, out).map(table),
         });
         Outcome { answer, lent }
     }

@@ -4,7 +4,7 @@
 // each test program uses a part of it
 #![allow(dead_code)]
 
-use siftpebble_model::band::MAX_CODE;
+use siftpebble_model::band::{Band, MAX_CODE};
 use siftpebble_model::random::Random;
 use siftpebble_model::{sample, Desk, Direction, Key, Table};
 use std::io::Write;
@@ -186,8 +186,8 @@ pub fn one_pel(name: &[u8]) -> Vec<u8> {
 /// What the model makes of some pages.
 pub struct Modelled {
     pub file: Vec<u8>,
-    /// The rows of each band of each page, its code and S.
-    pub bands: Vec<Vec<(u64, Vec<u8>, u64)>>,
+    /// The rows of each band of each page, its code and what was answered.
+    pub bands: Vec<Vec<(u64, Vec<u8>, Band)>>,
     /// The table learned after the last page.
     pub table: Table,
 }
@@ -215,7 +215,7 @@ pub fn packed(key: Key, rows: usize, pages: &[(&str, &Sheet)]) -> Modelled {
     }
 }
 
-fn model_page(desk: &mut Desk, key: Key, rows: usize, sheet: &Sheet) -> Vec<(u64, Vec<u8>, u64)> {
+fn model_page(desk: &mut Desk, key: Key, rows: usize, sheet: &Sheet) -> Vec<(u64, Vec<u8>, Band)> {
     let width = sheet.width as u64;
     desk.open(key, Direction::Write, width).expect("room");
     let bands = sheet.rows.chunks(rows * sheet.row_bytes()).map(|pels| {
@@ -223,7 +223,7 @@ fn model_page(desk: &mut Desk, key: Key, rows: usize, sheet: &Sheet) -> Vec<(u64
         let mut out = vec![0; MAX_CODE];
         let band = desk.write(key, rows, pels, &mut out).expect("room");
         out.truncate(band.length);
-        (rows, out, band.shifts)
+        (rows, out, band)
     });
     let bands = bands.collect();
     desk.close(key).expect("an open page");
