@@ -135,10 +135,10 @@ pub fn read_row(code: &[u8], above: &[u8], width: usize, start: Progress) -> Lin
         coder = v.coder;
         view = told.view;
         if v.revisited {
+            revisits += 1;
             table.entries[cx] = v.entry;
             good = match_two(code, at, v.settled, v.first, v.second, good);
             at = at + v.settled;
-            revisits += 1;
         }
         window = window.slide(above, width, x, p);
         let j = x / 8;

@@ -157,9 +157,9 @@ pub fn write_row(row: &[u8], above: &[u8], width: usize, start: Run, out: &mut [
         let v = put_pel(coder, e, p == e % 2);
         coder = v.coder;
         if v.revisited {
+            revisits += 1;
             table.entries[cx] = v.entry;
             at = store::put_two(out, at, v.settled, v.first, v.second);
-            revisits += 1;
         }
         window = window.slide(above, width, x, p);
         x += 1;

@@ -206,6 +206,13 @@ read-pel-requires c κs =
     let p = begin₁ t .pre in
     (i .ready, i .lawful _, omega (arith, i .count, t .loop-test .taken, p .0, p .5), i .within, i .near, i .small)
 
+add-revisits : tie.Need-add-revisits Inv-loop μ-loop
+add-revisits c =
+    let t = pel-turn (c .before) in
+    let i = t .before .loop .inv .0 in
+    let p = begin₁ t .pre in
+    omega (arith, seldom _ _ _ _ (i .stage) (p .7), i .count, i .passed, p .0, p .5)
+
 element-write-table : tie.Need-element-write-table Inv-loop μ-loop
 element-write-table c = let w = edge (pel-turn (c .before)) in omega arith
 
@@ -224,13 +231,6 @@ add-at c =
     let i = t .before .loop .inv .0 in
     let p = begin₁ t .pre in
     omega (arith, i .place, i .few, i .passed, p .0, p .6, told v .read-pel .ensures .pelled .few)
-
-add-revisits : tie.Need-add-revisits Inv-loop μ-loop
-add-revisits c =
-    let t = pel-turn (c .before .before .before) in
-    let i = t .before .loop .inv .0 in
-    let p = begin₁ t .pre in
-    omega (arith, seldom _ _ _ _ (i .stage) (p .7), i .count, i .passed, p .0, p .5)
 
 slide-requires : tie.Need-slide-requires Inv-loop μ-loop
 slide-requires c κs =
@@ -348,10 +348,10 @@ read-row-spec =
     loop-again
     element-copy-out-e
     read-pel-requires
+    add-revisits
     element-write-table
     match-two-requires
     add-at
-    add-revisits
     slide-requires
     array-read-row
     pel-in-byte-requires

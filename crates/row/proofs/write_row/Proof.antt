@@ -182,6 +182,13 @@ put-pel-requires c κs =
     let p = begin₁ t .pre in
     (i .ready, i .lawful _, omega (arith, i .count, t .loop-test .taken, p .6, p .0))
 
+add-revisits : tie.Need-add-revisits Inv-loop μ-loop
+add-revisits c =
+    let t = pel-turn (c .before) in
+    let i = t .before .loop .inv .0 in
+    let p = begin₁ t .pre in
+    omega (arith, seldom _ _ _ _ (i .stage) (p .8), i .count, t .loop-test .taken, p .6, p .0)
+
 element-write-table : tie.Need-element-write-table Inv-loop μ-loop
 element-write-table c = let w = edge (pel-turn (c .before)) in omega arith
 
@@ -192,13 +199,6 @@ put-two-requires c κs =
     let p = begin₁ t .pre in
     let n = c .before .before .before .put-pel .ensures .few in
     (n, omega (arith, i .place, i .few, t .loop-test .taken, n, p .0, p .7))
-
-add-revisits : tie.Need-add-revisits Inv-loop μ-loop
-add-revisits c =
-    let t = pel-turn (c .before .before .before .before .before) in
-    let i = t .before .loop .inv .0 in
-    let p = begin₁ t .pre in
-    omega (arith, seldom _ _ _ _ (i .stage) (p .8), i .count, t .loop-test .taken, p .6, p .0)
 
 slide-requires : tie.Need-slide-requires Inv-loop μ-loop
 slide-requires c κs =
@@ -284,9 +284,9 @@ write-row-spec =
     loop-again
     element-copy-out-e
     put-pel-requires
+    add-revisits
     element-write-table
     put-two-requires
-    add-revisits
     slide-requires
     add-x-2
     loop-less-2
