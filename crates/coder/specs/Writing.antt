@@ -29,8 +29,7 @@ pub record Stage (A : Model) (W : Writer) : Type 0 where
   pub writer : W .State
   pub revisits : ℕ
 
--- how many are revisited after one pel more: it is, that is, its context's estimate is, when there was at least one
--- shift (request E11)
+-- The context's estimate was revisited, which is when there was at least one shift: one pel more (request E11).
 abbrev pub counted : Bool → ℕ → ℕ
 counted shifted n = cond shifted (suc n) n
 
