@@ -32,6 +32,29 @@ pub enum Act {
     },
 }
 
+/// What a lent buffer holds before a call: no byte of it is zero.
+fn lent(room: usize) -> Vec<u8> {
+    vec![0xA5; room]
+}
+
+/// A write into so much room.
+pub fn write(rows: u64, pels: &[u8], room: usize) -> Act {
+    let (pels, lent) = (pels.to_vec(), lent(room));
+    Act::Write { rows, pels, lent }
+}
+
+/// A read into so much room.
+pub fn read(rows: u64, code: &[u8], room: usize) -> Act {
+    let (code, lent) = (code.to_vec(), lent(room));
+    Act::Read { rows, code, lent }
+}
+
+/// A look into so much room.
+pub fn look(room: usize) -> Act {
+    let lent = lent(room);
+    Act::Look { lent }
+}
+
 /// What every call answers: its number (0 when accepted), a length, S, and the
 /// pels revisited.
 #[derive(Clone, Copy, Debug, PartialEq, Eq)]

@@ -1,7 +1,7 @@
 //! The order of the refusals, call by call, and what they leave in the lent
 //! output.
 
-use siftpebble_model::call::{Act, Answer, Call, Serve};
+use siftpebble_model::call::{look, read, write, Act, Answer, Call, Serve};
 use siftpebble_model::{Desk, Direction, Key, Place};
 use Direction::{Read, Write};
 
@@ -44,21 +44,6 @@ fn full() -> Desk {
         }
     }
     desk
-}
-
-fn write(rows: u64, pels: &[u8], room: usize) -> Act {
-    let (pels, lent) = (pels.to_vec(), vec![0xA5; room]);
-    Act::Write { rows, pels, lent }
-}
-
-fn read(rows: u64, code: &[u8], room: usize) -> Act {
-    let (code, lent) = (code.to_vec(), vec![0xA5; room]);
-    Act::Read { rows, code, lent }
-}
-
-fn look(room: usize) -> Act {
-    let lent = vec![0xA5; room];
-    Act::Look { lent }
 }
 
 /// The call is refused with this number; the desk is as before, the lent

@@ -5,7 +5,7 @@ mod common;
 
 use common::{context, new_page};
 use siftpebble_model::band::{row_bytes, State, MAX_CODE};
-use siftpebble_model::call::{Act, Answer, Call, Outcome, Serve};
+use siftpebble_model::call::{look, read, write, Act, Answer, Call, Outcome, Serve};
 use siftpebble_model::coder::{Fill, Reader, Writer};
 use siftpebble_model::random::Random;
 use siftpebble_model::run::calls;
@@ -30,21 +30,6 @@ fn desk(direction: Direction, width: usize, state: &State) -> Desk {
 
 fn serve(desk: &mut Desk, act: Act) -> Outcome {
     desk.serve(&Call { key: KEY, act })
-}
-
-fn write(rows: u64, pels: &[u8], room: usize) -> Act {
-    let (pels, lent) = (pels.to_vec(), vec![0xA5; room]);
-    Act::Write { rows, pels, lent }
-}
-
-fn read(rows: u64, code: &[u8], room: usize) -> Act {
-    let (code, lent) = (code.to_vec(), vec![0xA5; room]);
-    Act::Read { rows, code, lent }
-}
-
-fn look(room: usize) -> Act {
-    let lent = vec![0xA5; room];
-    Act::Look { lent }
 }
 
 /// The pels of a band in which all have one value.

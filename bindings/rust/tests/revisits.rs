@@ -5,7 +5,7 @@ mod common;
 
 use common::library::Library;
 use siftpebble::{Band, Desk, Key, MAX_CODE, PAGES, PLACES, TABLE_BYTES};
-use siftpebble_model::call::{Act, Answer, Call, Serve};
+use siftpebble_model::call::{look, read, write, Act, Answer, Call, Serve};
 use siftpebble_model::random::Random;
 use siftpebble_model::sample;
 use siftpebble_model::Direction::{Read, Write};
@@ -108,21 +108,6 @@ fn serve(library: &mut Library, key: Key, act: Act) -> [u64; 4] {
         revisits,
     } = library.serve(&Call { key, act }).answer;
     [number, length, shifts, revisits]
-}
-
-fn write(rows: u64, pels: &[u8], room: usize) -> Act {
-    let (pels, lent) = (pels.to_vec(), vec![0xA5; room]);
-    Act::Write { rows, pels, lent }
-}
-
-fn read(rows: u64, code: &[u8], room: usize) -> Act {
-    let (code, lent) = (code.to_vec(), vec![0xA5; room]);
-    Act::Read { rows, code, lent }
-}
-
-fn look(room: usize) -> Act {
-    let lent = vec![0xA5; room];
-    Act::Look { lent }
 }
 
 /// Each call in its turn on one desk, and the four numbers of its answer: only

@@ -26,9 +26,10 @@ q-counts : Counts qWriter
 q-counts q e w = pel-counts (decision q e) w
 
 -- wherever a band comes to stand, no more pels were revisited than there were shifts
-pub seldom : (width : ℕ) (ps : List ℕ) (s u : Stage (qPage width) qWriter) → after (qPage width) qWriter s ps ≡ u
-    → s .revisits ≤ s .writer .interval .count → u .revisits ≤ u .writer .interval .count
-seldom width ps s u e h =
+pub no-more-than-shifts : (width : ℕ) (ps : List ℕ) (s u : Stage (qPage width) qWriter)
+    → after (qPage width) qWriter s ps ≡ u → s .revisits ≤ s .writer .interval .count
+    → u .revisits ≤ u .writer .interval .count
+no-more-than-shifts width ps s u e h =
     subst (λ (v : Stage (qPage width) qWriter). v .revisits ≤ v .writer .interval .count) e
     (revisits-shifts (qPage width) qWriter q-counts ps s h)
 
@@ -37,8 +38,8 @@ module _ (width rows : ℕ) (table last band : List ℕ) where
   pub at-most-shifts : written width rows table last band .revisits ≤ written width rows table last band .shifts
   unfolding written
   at-most-shifts =
-      seldom width (bandTo width band rows) (opening (qPage width) qWriter (pageAt width table last)) _ refl
-      (omega arith)
+      no-more-than-shifts width (bandTo width band rows) (opening (qPage width) qWriter (pageAt width table last)) _
+      refl (omega arith)
 
   -- the pels revisited are at most the band's pels
   pub at-most-pels : written width rows table last band .revisits ≤ rows * width

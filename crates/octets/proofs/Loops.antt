@@ -161,11 +161,12 @@ shifts-keep (suc n) w =
     (shifts n (due (double w))) w
     (λ t. omega (arith, shifts-keep n (due (double w)), due-count (double w))) (λ t. omega arith)
 
--- one more, where the width is below 1000 hex
-abbrev least : Registers → ℕ
-least w = cond (ltb (w .interval .width) 4096) (suc (w .interval .count)) (w .interval .count)
+-- one more than n, where the width a is below 1000 hex
+abbrev least : ℕ → ℕ → ℕ
+least a n = cond (ltb a 4096) (suc n) n
 
-shifts-least : (n : ℕ) (w : Registers) → least w ≤ shifts (suc n) w .interval .count
+shifts-least : (n : ℕ) (w : Registers) → least (w .interval .width) (w .interval .count)
+    ≤ shifts (suc n) w .interval .count
 unfolding shifts
 shifts-least n w =
     by-cond₂ (λ (k : ℕ) (v : Registers). k ≤ v .interval .count) (ltb (w .interval .width) 4096)
@@ -173,8 +174,8 @@ shifts-least n w =
     (λ t. omega (arith, shifts-keep n (due (double w)), due-count (double w))) (λ t. omega arith)
 
 -- so a pel with a shift makes the count grow, and no pel makes it fall
-pub pel-counts : (d : Decision) (w : Registers)
-    → cond (ltb (part d w .interval .width) 4096) (suc (w .interval .count)) (w .interval .count)
+pub pel-counts : (d : Decision) (w : Registers) → least (part d w .interval .width) (w .interval .count)
     ≤ pel d w .interval .count
-pel-counts d w = by-part (λ (v : Registers). cond (ltb (v .interval .width) 4096) (suc (w .interval .count))
-    (w .interval .count) ≤ shifts 12 v .interval .count) d w (λ t. shifts-least 11 _) (λ t. shifts-least 11 _)
+pel-counts d w =
+    by-part (λ (v : Registers). least (v .interval .width) (w .interval .count) ≤ shifts 12 v .interval .count) d w
+    (λ t. shifts-least 11 _) (λ t. shifts-least 11 _)

@@ -22,7 +22,7 @@ use Rattle.template.specs.Pels.{rowBytes, pelsTo, bandTo, bandPadded}
 use Rattle.band.specs.Band.{IsBand, qWriter, qPage, pageAt}
 use Rattle.row.specs.WrittenRow.{stageOf, through}
 use Rattle.row.proofs.WrittenRow.{lift-behind}
-use Rattle.writer.proofs.RowByRow.{put-behind, behind-through}
+use Rattle.writer.proofs.RowByRow.{stageBehind, behind-through}
 use Rattle.reader.specs.declared.Progress.{Progress}
 use Rattle.reader.specs.declared.Line.{Line}
 use Rattle.sight.specs.Views.{sightOf}
@@ -103,7 +103,7 @@ module _ (width : ℕ) (last code t₀ out₀ : List ℕ) where
         ap (λ (w : Registers). through width (stageOf width here w (s .revisits)) (pelsTo (l .row) width))
         (lift-behind (s .coder) (b .settled)) ∙ behind-through width (pelsTo (l .row) width) here (b .settled)
         (lift (s .coder) []) (s .revisits)
-        ∙ ap (put-behind width (b .settled)) (f .stage)
+        ∙ ap (stageBehind width (b .settled)) (f .stage)
 
     next-stage : through width (begun width last code t₀ out₀) (bandTo width (b .band ++ row) (suc y)) ≡ stageOf width
         next (lift (l .reading .coder) (b .settled ++ f .settled)) (l .reading .revisits)

@@ -36,12 +36,12 @@ use Rattle.writer.specs.RowByRow.{BandAt, opened}
 
 module _ (width : ℕ) where
   -- a stage with bytes before its own
-  abbrev pub put-behind : List ℕ → Stage (qPage width) qWriter → Stage (qPage width) qWriter
-  put-behind xs s = stageOf width (s .model) (behind xs (s .writer)) (s .revisits)
+  abbrev pub stageBehind : List ℕ → Stage (qPage width) qWriter → Stage (qPage width) qWriter
+  stageBehind xs s = stageOf width (s .model) (behind xs (s .writer)) (s .revisits)
 
   -- the bytes before stay before
   pub behind-through : (ps : List ℕ) (m : Page) (xs : List ℕ) (w : Registers) (n : ℕ)
-      → through width (stageOf width m (behind xs w) n) ps ≡ put-behind xs (through width (stageOf width m w n) ps)
+      → through width (stageOf width m (behind xs w) n) ps ≡ stageBehind xs (through width (stageOf width m w n) ps)
   unfolding after
   behind-through [] m xs w n = refl
   behind-through (p ∷ ps) m xs w n =
@@ -90,7 +90,7 @@ module _ (width : ℕ) where
       from-band =
           ap (λ (w : Registers). through width (stageOf width under w n) (pelsTo row width))
           (lift-behind c (b .settled))
-          ∙ behind-through (pelsTo row width) under (b .settled) (lift c []) n ∙ ap (put-behind (b .settled)) from-row
+          ∙ behind-through (pelsTo row width) under (b .settled) (lift c []) n ∙ ap (stageBehind (b .settled)) from-row
 
       next-stage : through width (opened width last band t₀ out₀) (bandTo width band (suc y)) ≡ stageOf width then
           (lift c′ (b .settled ++ r .settled)) n′

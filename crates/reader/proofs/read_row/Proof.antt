@@ -4,7 +4,7 @@ use mathlib.Core.Path.{_≡_, sym, ap, _∙_, subst}
 use mathlib.Core.Logic.{⊎-elim}
 use mathlib.Core.Bool.{Bool, _&&_}
 use Rattle.coder.specs.Writing.{counted}
-use Rattle.band.proofs.Revisits.{seldom}
+use Rattle.band.proofs.Revisits.{no-more-than-shifts}
 use Prim.Native.Nat.{ℕ, _+_, _-_, _*_, _≤_}
 use native.Mathlib.Numerals.{add-one}
 use native.Mathlib.Omega.{arith}
@@ -211,7 +211,7 @@ add-revisits c =
     let t = pel-turn (c .before) in
     let i = t .before .loop .inv .0 in
     let p = begin₁ t .pre in
-    omega (arith, seldom _ _ _ _ (i .stage) (p .7), i .count, i .passed, p .0, p .5)
+    omega (arith, no-more-than-shifts _ _ _ _ (i .stage) (p .7), i .count, i .passed, p .0, p .5)
 
 element-write-table : tie.Need-element-write-table Inv-loop μ-loop
 element-write-table c = let w = edge (pel-turn (c .before)) in omega arith

@@ -7,7 +7,7 @@ use native.Mathlib.Omega.{arith}
 use borrow.Author.Needs.{needs}
 use lib.ListN.{length}
 use Rattle.limits.specs.Limits.{maxRows, lastBytes}
-use Rattle.band.proofs.Revisits.{seldom}
+use Rattle.band.proofs.Revisits.{no-more-than-shifts}
 use Rattle.reader.specs.Reads.{BandRead}
 use Rattle.reader.proofs.RowsRead.{reads-start, reads-again, next-room}
 use Rattle.reader.proofs.read_rows.Statement.{statement}
@@ -84,7 +84,7 @@ read-row-requires c κs =
       b .ready,
       omega (arith, b .count, t, q .2),
       omega (arith, b .place, b .few, t, q .2),
-      seldom _ _ _ _ (b .stage) (omega arith),
+      no-more-than-shifts _ _ _ _ (b .stage) (omega arith),
       b .within,
       b .near,
       b .small,

@@ -10,7 +10,7 @@ use Rattle.limits.specs.Limits.{lastBytes}
 use Rattle.template.specs.Pels.{rowAt, rowBytes}
 use Rattle.octets.specs.Fit.{Ready}
 use Rattle.octets.proofs.Fit.{ready-start}
-use Rattle.band.proofs.Revisits.{seldom}
+use Rattle.band.proofs.Revisits.{no-more-than-shifts}
 use Rattle.writer.specs.RowByRow.{BandAt}
 use Rattle.writer.proofs.RowByRow.{RowsKeep, band-first, start-count}
 use Rattle.writer.proofs.RowByRow.{keep-next, rows-fit, row-inside, band-length}
@@ -125,7 +125,7 @@ write-next-requires c κs =
       b .ready,
       omega (arith, b .count, t, q .3),
       omega (arith, b .place, b .few, t, q .3),
-      seldom _ _ _ _ (b .stage) (omega arith),
+      no-more-than-shifts _ _ _ _ (b .stage) (omega arith),
     )
 
 add-y : tie.Need-add-y Inv-loop μ-loop
