@@ -1,11 +1,11 @@
 -- How many pels of a band are revisited, for every table, last row and pels. Assumes nothing.
-use mathlib.Core.Path.{_≡_, refl, sym, ap₂, _∙_, subst}
+use mathlib.Core.Path.{_≡_, sym, ap₂, _∙_}
 use Prim.Native.Nat.{ℕ, zero, suc, _+_, _*_, _≤_}
 use native.Mathlib.Nat.{zero-mul, suc-mul}
 use native.Mathlib.Omega.{arith}
 use mathlib.Core.List.{List}
 use lib.ListN.{length, length-append}
-use Rattle.coder.specs.Writing.{Stage, after, opening}
+use Rattle.coder.specs.Writing.{opening}
 use Rattle.coder.proofs.Revisits.{Counts, revisits-pels, revisits-shifts}
 use Rattle.interval.specs.Interval.{decision}
 use Rattle.octets.proofs.Loops.{pel-counts}
@@ -22,24 +22,16 @@ band-size width band (suc n) =
     (band-size width band n) (length-pels (rowAt width band n) width) ∙ sym (suc-mul n width)
 
 -- the Q-coder counts its shifts
-q-counts : Counts qWriter
+pub q-counts : Counts qWriter
 q-counts q e w = pel-counts (decision q e) w
-
--- wherever a band comes to stand, no more pels were revisited than there were shifts
-pub no-more-than-shifts : (width : ℕ) (ps : List ℕ) (s u : Stage (qPage width) qWriter)
-    → after (qPage width) qWriter s ps ≡ u → s .revisits ≤ s .writer .interval .count
-    → u .revisits ≤ u .writer .interval .count
-no-more-than-shifts width ps s u e h =
-    subst (λ (v : Stage (qPage width) qWriter). v .revisits ≤ v .writer .interval .count) e
-    (revisits-shifts (qPage width) qWriter q-counts ps s h)
 
 module _ (width rows : ℕ) (table last band : List ℕ) where
   -- the pels revisited are at most S
   pub at-most-shifts : written width rows table last band .revisits ≤ written width rows table last band .shifts
   unfolding written
   at-most-shifts =
-      no-more-than-shifts width (bandTo width band rows) (opening (qPage width) qWriter (pageAt width table last)) _
-      refl (omega arith)
+      revisits-shifts (qPage width) qWriter q-counts (bandTo width band rows)
+      (opening (qPage width) qWriter (pageAt width table last)) (omega arith)
 
   -- the pels revisited are at most the band's pels
   pub at-most-pels : written width rows table last band .revisits ≤ rows * width

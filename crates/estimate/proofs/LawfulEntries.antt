@@ -1,21 +1,18 @@
 -- What holds of every row: its value is 1 to AC1 hex, and the next entries of a lawful entry are lawful. Assumes
 -- nothing.
 use mathlib.Core.Path.{_≡_, sym, ap, subst}
-use mathlib.Core.Logic.{_≢_, _⊎_, inl, inr}
+use mathlib.Core.Logic.{_≢_}
 use Prim.Native.Nat.{ℕ, zero, _+_, _-_, _*_, _/_, _%_, _≤_, _<_}
 use native.Mathlib.Omega.{arith}
 use native.Mathlib.Decide.{decLt}
 use mathlib.Core.Bool.{Bool, true, false, _&&_, _||_}
-use mathlib.Core.List.{List}
-use lib.ListN.{getD, set, length, replicate, getD-replicate, List·getD-eq-default}
-use lib.Seq.{getD-set-same, getD-set-other, set-out}
+use lib.ListN.{getD, replicate, getD-replicate, List·getD-eq-default}
 use lib.Dec.{T, leb, ltb, eqb, leb→le, nltb→le}
 use borrow.Author.Tests.{eq-eqb, ne-eqb}
-use Rattle.ground.proofs.Tests.{by-cond, neqb→ne, same?}
+use Rattle.ground.proofs.Tests.{by-cond, neqb→ne}
 use Rattle.ground.proofs.Tables.{at-each, and-left, and-right}
 use Rattle.limits.specs.Limits.{contexts}
 use Rattle.estimate.specs.Estimate.{rows, rowOf, rise, fall, flip, next, indexOf, senseOf, fresh, LawfulEntry}
-use Rattle.estimate.specs.Estimate.{LawfulTable}
 
 -- ---- the values
 inRange : ℕ → ℕ → Bool
@@ -96,12 +93,3 @@ unfolding fresh
 fresh-entry cx h =
     let e : getD (replicate contexts 0) cx 0 ≡ zero = getD-replicate contexts cx 0 0 h in
     (ap (λ (x : ℕ). x / 2) e, ap (λ (x : ℕ). x % 2) e)
-
--- one entry changed
-pub set-lawful : (t : List ℕ) (cx e : ℕ) → LawfulTable t → LawfulEntry e → LawfulTable (set t cx e)
-set-lawful t cx e l h k = go (same? k cx) (decLt cx (length t))
-  where
-    go : (k ≡ cx) ⊎ (k ≢ cx) → Dec (cx < length t) → LawfulEntry (getD (set t cx e) k 0)
-    go (inl y) (yes n) = rw (y, getD-set-same t cx e 0 n) h
-    go (inl y) (no n) = rw (set-out t cx e (omega arith)) (l k)
-    go (inr y) n = rw (getD-set-other t cx k e 0 y) (l k)

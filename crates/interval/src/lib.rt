@@ -19,7 +19,7 @@ pub struct Coded {
 
 // How many doublings bring a width to 1000 hex or more: its highest bit tells. Of 64 bits, 1000 hex has 51 leading
 // zeros.
-fn shifts_for(width: u64) -> u64
+pub fn shifts_for(width: u64) -> u64
     requires { ⌜ (1 ≤ width) × (width < 8192) ⌝ }
     ensures { λ r. ⌜ (r ≡ doublings 12 width) × (r ≤ 12) ⌝ }
 {

@@ -1,86 +1,83 @@
 -- A band read to its end: it is right, or no band was written so. Assumes nothing.
-use mathlib.Core.Path.{_≡_, refl, sym, ap, ap₂, _∙_, subst}
+use mathlib.Core.Path.{_≡_, refl, sym, ap, _∙_, subst}
 use Prim.Native.Nat.{ℕ, _+_, _-_, _*_, _≤_, _<_}
-use native.Mathlib.Nat.{zero-add, add-zero}
-use native.Mathlib.Omega.{arith}
 use mathlib.Core.Bool.{Bool, true, false, _&&_}
 use mathlib.Core.Option.{some, none}
-use mathlib.Core.List.{List, [], _++_, append-nil}
-use lib.ListN.{length, drop, replicate, length-append}
+use mathlib.Core.List.{List, [], _++_}
+use lib.ListN.{length, drop, replicate}
 use lib.Dec.{eqb}
 use borrow.Author.Tests.{le-leb, lt-leb}
-use Rattle.coder.specs.Writing.{Stage}
-use Rattle.coder.specs.Reading.{readPels}
-use Rattle.octets.specs.Octets.{finish, ended, code}
-use Rattle.octets.specs.Lift.{lift}
+use Rattle.ground.proofs.Bools.{no-way}
+use Rattle.coder.specs.Page.{Page}
+use Rattle.engine.specs.Followed.{matches}
+use Rattle.engine.proofs.Verdict.{end-shifts, end-revisits, end-model, verdict-good, verdict-damaged}
 use Rattle.estimate.specs.declared.Table.{Table}
-use Rattle.exact.specs.Sight.{opened}
+use Rattle.estimate.proofs.LawfulEntries.{Sized, row-sized}
+use Rattle.octets.specs.Octets.{finish, ended}
+use Rattle.octets.specs.Lift.{lift}
 use Rattle.store.specs.Store.{inFront, cleared}
 use Rattle.template.specs.Pels.{rowBytes, bandTo}
-use Rattle.band.specs.Band.{qWriter, qPage, pageAt, written, lastRow}
-use Rattle.writer.proofs.RowByRow.{finish-behind}
-use Rattle.reader.specs.declared.Progress.{Progress}
+use Rattle.band.specs.Band.{written, lastRow}
+use Rattle.band.proofs.Revisits.{band-size}
+use Rattle.row.specs.QEngine.{qEngine}
+use Rattle.row.proofs.QEngine.{qIsEngine}
 use Rattle.unique.specs.QCoder.{qReader}
-use Rattle.reader.specs.ReadRow.{matches, reads}
-use Rattle.reader.proofs.ReadRow.{matches-append}
+use Rattle.unique.proofs.QCoder.{qCoder}
+use Rattle.unique.proofs.BandPels.{band-pels}
+use Rattle.reader.specs.declared.Progress.{Progress}
 use Rattle.reader.specs.Reads.{BandRead}
 use Rattle.reader.specs.Found.{rowsFit, notRead, readAnswer, readOut, BandFound}
-use Rattle.reader.proofs.Verdict.{agreed, agrees}
-use Rattle.unique.proofs.BandPels.{reads-written, code-of-pels}
 
 module _ (width rows : ℕ) (table : Table) (last given out₀ above : List ℕ) (r : Progress) (out : List ℕ)
     (b : BandRead width last given (table .entries) out₀ above r out rows)
-    (lasts : List ℕ) (e : lasts ≡ ended (finish (lift (r .coder) []))) (more : 1 ≤ length lasts)
+    (lasts : List ℕ) (e : lasts ≡ ended (finish (lift (r .coder) [])))
     (fits : rowsFit width rows out₀ ≡ true) where
-  abbrev all : List ℕ
-  all = b .settled ++ lasts
-
   abbrev t₀ : List ℕ
   t₀ = table .entries
 
-  all-some : 1 ≤ length all
-  all-some = omega (arith, length-append (b .settled) lasts)
-
-  code-is : written width rows t₀ last (b .band) .code ≡ drop 1 all
-  unfolding written code
-  code-is = ap (λ (s : Stage (qPage width) qWriter). code (s .writer)) (b .stage) ∙ ap (drop 1)
-      (finish-behind (r .coder) (b .settled) lasts e)
-
   shifts-is : written width rows t₀ last (b .band) .shifts ≡ r .coder .interval .count
   unfolding written
-  shifts-is = ap (λ (s : Stage (qPage width) qWriter). s .writer .interval .count) (b .stage)
+  shifts-is = end-shifts qEngine qIsEngine width _ (b .from) _ _ (r .coder) (r .revisits) _ (b .first) (b .done .coded)
 
   revisits-is : written width rows t₀ last (b .band) .revisits ≡ r .revisits
   unfolding written
-  revisits-is = ap (λ (s : Stage (qPage width) qWriter). s .revisits) (b .stage)
+  revisits-is = end-revisits qEngine qIsEngine width _ (b .from) _ _ (r .coder) (r .revisits) _ (b .first)
+      (b .done .coded)
 
   table-is : written width rows t₀ last (b .band) .table ≡ r .table .entries
   unfolding written
-  table-is = ap (λ (s : Stage (qPage width) qWriter). s .model .table) (b .stage)
+  table-is = ap (λ (m : Page). m .table) (end-model qEngine qIsEngine width _ (b .from) _ _ (r .coder) (r .revisits) _
+      (b .first) (b .done .coded))
 
   last-is : 1 ≤ rows → written width rows t₀ last (b .band) .last ≡ above
   unfolding written lastRow
   last-is h = sym (b .lastIs h)
 
-  -- what was compared, in all
-  compared : (n : ℕ) → n ≡ r .at + length lasts
-      → ((r .good && matches given (r .at) lasts) && eqb (n - 1) (length given))
-      ≡ (matches given 0 all && eqb (length all - 1) (length given))
-  compared n h =
-      ap₂ (λ (x : Bool) (k : ℕ). x && eqb (k - 1) (length given))
-      (ap₂ (λ (x : Bool) (k : ℕ). x && matches given k lasts) (b .matched)
-      (b .place ∙ sym (zero-add (length (b .settled)))) ∙ sym (matches-append given 0 (b .settled) lasts))
-      (h ∙ ap (λ (k : ℕ). k + length lasts) (b .place) ∙ sym (length-append (b .settled) lasts))
+  -- how the bytes compared, with the last of them
+  abbrev Agreed : ℕ → Bool → Type 0
+  Agreed n v = ((r .good && matches given (r .at) lasts) && eqb (n - 1) (length given)) ≡ v
 
-  -- the pels that the laws' reader reads are the band's
-  pels-are : readPels (qPage width) qReader (rows * width) (pageAt width t₀ last) (opened given) ≡ bandTo width
-      (b .band) rows
-  unfolding readPels
-  pels-are = ap (λ (k : ℕ). reads width k (pageAt width t₀ last) (opened given)) (sym (add-zero (rows * width)))
-      ∙ b .read 0 ∙ append-nil (bandTo width (b .band) rows)
+  -- the band was written so
+  good-code : (n : ℕ) → n ≡ r .at + length lasts → Agreed n true → written width rows t₀ last (b .band) .code ≡ given
+  unfolding written
+  good-code n k h =
+      verdict-good qEngine qIsEngine qReader Sized qCoder row-sized width given _ (b .from) _ _ (r .coder)
+      (r .revisits) (r .at) (r .good) _ (b .first) (b .done) n (k ∙ ap (λ (l : List ℕ). r .at + length l) e)
+      (subst (λ (l : List ℕ). ((r .good && matches given (r .at) l) && eqb (n - 1) (length given)) ≡ true) e h)
+
+  -- no band was
+  no-code : (n : ℕ) → n ≡ r .at + length lasts → Agreed n false → (band : List ℕ)
+      → written width rows t₀ last band .code ≡ given → ⊥
+  unfolding written
+  no-code n k h band w =
+      verdict-damaged qEngine qIsEngine qReader Sized qCoder row-sized width given _ (b .from) _ _ (r .coder)
+      (r .revisits) (r .at) (r .good) _ (b .first) (b .done) n (k ∙ ap (λ (l : List ℕ). r .at + length l) e)
+      (subst (λ (l : List ℕ). ((r .good && matches given (r .at) l) && eqb (n - 1) (length given)) ≡ false) e h)
+      (bandTo width band rows) (band-pels width band rows)
+      (band-size width band rows ∙ sym (band-size width (b .band) rows)) w
 
   module _ (n : ℕ) (count : n ≡ r .at + length lasts) (some-rows : 1 ≤ rows) where
-    pub read-done : ((r .good && matches given (r .at) lasts) && eqb (n - 1) (length given)) ≡ true
+    pub read-done : Agreed n true
         → BandFound width rows table last given out₀
         (record {
           room = true;
@@ -95,7 +92,7 @@ module _ (width rows : ℕ) (table : Table) (last given out₀ above : List ℕ)
     read-done h =
         record {
           found = some (b .band);
-          right = λ k. (b .isBand, code-is ∙ agreed given all all-some (sym (compared n count) ∙ h));
+          right = λ k. (b .isBand, good-code n count h);
           answer = rw fits
               (λ i. record {
                 room = true;
@@ -109,7 +106,7 @@ module _ (width rows : ℕ) (table : Table) (last given out₀ above : List ℕ)
           lent = rw fits (b .front ∙ ap (λ (k : ℕ). b .band ++ drop k out₀) (sym (b .isBand .size)));
         }
 
-    pub read-damaged : ((r .good && matches given (r .at) lasts) && eqb (n - 1) (length given)) ≡ false
+    pub read-damaged : Agreed n false
         → (after : List ℕ) → after ≡ cleared out → length out ≡ length out₀
         → BandFound width rows table last given out₀
         (notRead true table last) after
@@ -117,15 +114,10 @@ module _ (width rows : ℕ) (table : Table) (last given out₀ above : List ℕ)
     read-damaged h after a l =
         record {
           found = none;
-          right = λ k band isBand w. absurd (apart (sym h ∙ compared n count
-              ∙ agrees given all all-some (sym code-is ∙ code-of-pels width rows t₀ last (b .band) band
-              (sym pels-are ∙ reads-written width rows t₀ last given band w) ∙ w)));
+          right = λ k band isBand w. no-code n count h band w;
           answer = rw fits refl;
           lent = a ∙ ap (λ (k : ℕ). replicate k 0) l;
         }
-      where
-        apart : false ≡ true → ⊥
-        apart q = let z : _≡_ {A = ℕ} 0 1 = cc in omega arith
 
 -- no room: the code is not looked at
 pub read-nothing : (width rows : ℕ) (table : Table) (last given out₀ after : List ℕ) → rowsFit width rows out₀ ≡ false
@@ -134,10 +126,7 @@ pub read-nothing : (width rows : ℕ) (table : Table) (last given out₀ after :
     (notRead false table last) after
 unfolding readAnswer readOut
 read-nothing width rows table last given out₀ after f a =
-    record { found = none; right = λ k. absurd (apart (sym f ∙ k)); answer = rw f refl; lent = a }
-  where
-    apart : false ≡ true → ⊥
-    apart q = let z : _≡_ {A = ℕ} 0 1 = cc in omega arith
+    record { found = none; right = λ k. absurd (no-way (sym k ∙ f)); answer = rw f refl; lent = a }
 
 pub fits-when : (width rows bytes′ : ℕ) (out : List ℕ) → bytes′ ≡ rowBytes width → rows * bytes′ ≤ length out
     → rowsFit width rows out ≡ true

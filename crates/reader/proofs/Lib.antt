@@ -1,7 +1,5 @@
 pub mod Ends
 pub mod ReadBand
 pub mod ReadRow
-pub mod RowsRead
-pub mod Verdict
 pub mod ReadRuns
-pub mod RowRead
+pub mod RowsRead

@@ -1,14 +1,17 @@
 -- A white run of expected pels with no shift, as the reader's loop meets it: all at once. Assumes nothing.
-use mathlib.Core.Path.{_≡_, refl, sym, ap, _∙_, subst}
+use mathlib.Core.Path.{_≡_, refl, sym, ap, _∙_, subst, subst₂}
 use Prim.Native.Nat.{ℕ, suc, _+_, _-_, _*_, _/_, _%_, _^_, _≤_, _<_}
 use native.Mathlib.Nat.{zero-mul, add-mul, mul-le-mul-right}
 use native.Mathlib.Omega.{arith}
-use mathlib.Core.Bool.{Bool, false, _&&_}
+use mathlib.Core.Bool.{Bool, true}
 use mathlib.Core.List.{List}
 use lib.ListN.{getD, set}
 use lib.Seq.{set-getD}
 use Rattle.limits.specs.Limits.{maxWidth}
+use Rattle.engine.specs.Followed.{matches, Told}
+use Rattle.engine.proofs.Matching.{with-true}
 use Rattle.estimate.specs.Estimate.{rowOf}
+use Rattle.exact.specs.Sight.{Sight}
 use Rattle.octets.specs.declared.Coder.{Coder}
 use Rattle.octets.specs.Runs.{stillBy}
 use Rattle.octets.proofs.Runs.{still-more, still-none, in-steps}
@@ -17,22 +20,25 @@ use Rattle.template.specs.declared.Window.{Window}
 use Rattle.template.proofs.Sliding.{slid-context}
 use Rattle.template.specs.White.{Under, whiteWindow}
 use Rattle.template.proofs.White.{slid-white}
-use Rattle.row.specs.declared.Pel.{Pel}
-use Rattle.row.specs.WrittenRow.{Pelled, bytesOf}
-use Rattle.row.proofs.WrittenRow.{pelled-quiet}
+use Rattle.row.specs.QEngine.{qEngine}
+use Rattle.row.specs.WrittenRow.{given, stillPel}
+use Rattle.row.proofs.QEngine.{qIsEngine}
+use Rattle.row.proofs.WrittenRow.{qSeven}
 use Rattle.sight.specs.declared.View.{View}
-use Rattle.reader.proofs.ReadRow.{RowRead, with-true, read-turn}
-use Rattle.reader.specs.ReadRow.{matches}
+use Rattle.sight.specs.Views.{sightOf}
 use Rattle.sight.specs.Still.{viewBy}
 use Rattle.sight.proofs.Still.{view-none, view-more, stillTold, told-still}
+use Rattle.unique.specs.QCoder.{qReader}
+use Rattle.reader.specs.RowRead.{InSight}
+use Rattle.reader.proofs.ReadRow.{RowRead, read-told, read-turn}
 
--- nothing is compared after such a pel
-pub match-none : (c : Coder) (e : ℕ) (b : Bool) (u : Pel) (code : List ℕ) (at : ℕ) (good : Bool) → Pelled c e b u
-    → u .revisited ≡ false
-    → good ≡ (good && matches code at (bytesOf u))
-unfolding matches
-match-none c e b u code at good k z =
-    sym (with-true good) ∙ ap (λ (bs : List ℕ). good && matches code at bs) (sym (pelled-quiet c e b u k z))
+-- a row as our reader's loop meets it
+abbrev pub ReadTo : ℕ → List ℕ → List ℕ → Coder → List ℕ → ℕ → ℕ → Bool → View → List ℕ → List ℕ → Coder → Window → View
+    → ℕ → ℕ → Bool → ℕ → Type 0
+ReadTo width above t₀ c₀ code at₀ n₀ good₀ v₀ row t c w v at n good x =
+    RowRead qEngine qIsEngine qSeven qReader width above t₀ c₀ code at₀ n₀ good₀ (sightOf v₀ (c₀ .interval .width) code)
+    row t c w (sightOf v (c .interval .width) code) at n good x
+    × InSight code v
 
 -- what fits into the room is told
 pub told-so : (n q r p x : ℕ) → n * q ≤ r → r * p ≤ x → n * q * p ≤ x
@@ -48,8 +54,11 @@ module _ (width : ℕ) (over t₀ : List ℕ) (c₀ : Coder) (code : List ℕ) (
   abbrev q : ℕ
   q = rowOf e
 
+  abbrev r₀ : Sight
+  r₀ = sightOf v₀ (c₀ .interval .width) code
+
   abbrev On : Coder → View → ℕ → Type 0
-  On c v x = RowRead width over t₀ c₀ code at₀ n₀ good₀ v₀ row t c (whiteWindow over x) v at n good x
+  On c v x = ReadTo width over t₀ c₀ code at₀ n₀ good₀ v₀ row t c (whiteWindow over x) v at n good x
 
   -- one of them: row, table, place, count and comparison stay
   one : (c : Coder) (v : View) (x : ℕ) → On c v x → x < width → 4096 + q ≤ c .interval .width → q * 2 ^ v .look ≤ v .x
@@ -58,22 +67,28 @@ module _ (width : ℕ) (over t₀ : List ℕ) (c₀ : Coder) (code : List ℕ) (
   unfolding matches
   one c v x f h wide told a =
       let cx : 0 ≡ context over (pelsTo row x) x = sym (omega (arith, a)) ∙ slid-context over (pelsTo row x) x
-      (whiteWindow over x) (f .slid) in
+      (whiteWindow over x) (f .0 .slid) in
       let s : getD over (suc x + 2) 0 ≡ getD over (x + 3) 0 = ap (λ (k : ℕ). getD over k 0) (omega arith) in
       let r : set row (x / 8) (getD row (x / 8) 0 + 0) ≡ row = ap (set row (x / 8)) (omega arith) ∙ set-getD row
       (x / 8) 0 in
-      subst (λ (l : List ℕ). RowRead width over t₀ c₀ code at₀ n₀ good₀ v₀ l t (stillBy q c) (whiteWindow over (suc x))
-      (viewBy q v) at n good (suc x)) r
-      (read-turn width over t₀ c₀ code at₀ n₀ good₀ v₀ row t c (whiteWindow over x) v at n good x f h narrow b
-      (stillTold c v e) 0 0 0 t
-      (whiteWindow over (suc x)) at n
-      good (sym (set-getD t 0 0)) cx (told-still c v code e wide told (f .within) (f .near) (f .small)) (sym white)
-      (sym (zero-mul (2 ^ (7 - x % 8))))
-      (omega (arith, b (x + 3))) (omega arith) (omega arith) refl (sym (with-true good)))
+      let k = told-still c v code e wide told (f .1 .within) (f .1 .near) (f .1 .small) in (
+        subst (λ (l : List ℕ). RowRead qEngine qIsEngine qSeven qReader width over t₀ c₀ code at₀ n₀ good₀ r₀ l t
+            (stillBy q c) (whiteWindow over (suc x)) (sightOf (viewBy q v) (c .interval .width - q) code) at n good
+            (suc x)) r
+            (read-turn qEngine qIsEngine qSeven qReader width over t₀ c₀ code at₀ n₀ good₀ r₀ row t c
+            (whiteWindow over x) _ at n good x (f .0) (given (stillPel c e)) h narrow true 0 0 0 _ t
+            (whiteWindow over (suc x)) at n good b cx
+            (subst (λ (p : ℕ). Told qEngine qReader c (sightOf v (c .interval .width) code) e true p
+            (sightOf (viewBy q v) (c .interval .width - q) code) (given (stillPel c e))) white
+            (read-told c v code e (stillTold c v e) k))
+            (sym (zero-mul (2 ^ (7 - x % 8)))) (sym (set-getD t 0 0)) (omega (arith, b (x + 3))) (omega arith)
+            (omega arith) refl (sym (with-true good))),
+        record { within = k .within; near = k .near; small = k .small },
+      )
 
   -- as the code has it: j of the pels up to y, from a window that is white, are one step
-  pub read-run : (c : Coder) (w : Window) (v : View) (x y j s : ℕ) → RowRead width over t₀ c₀ code at₀ n₀ good₀ v₀ row
-      t c w v at n good x
+  pub read-run : (c : Coder) (w : Window) (v : View) (x y j s : ℕ)
+      → ReadTo width over t₀ c₀ code at₀ n₀ good₀ v₀ row t c w v at n good x
       → 4 * w .above + w .this ≡ 0 → y ≤ width → Under over x y → x ≤ y → j ≤ y - x → s ≡ j * q
       → 4096 + s ≤ c .interval .width
       → s * 2 ^ v .look ≤ v .x
@@ -81,16 +96,15 @@ module _ (width : ℕ) (over t₀ : List ℕ) (c₀ : Coder) (code : List ℕ) (
   read-run c w v x y j s f z h u l k e room told =
       subst (λ (m : ℕ). On (stillBy m c) (viewBy m v) (x + j)) (sym e)
       (in-steps q x y s (λ m o. On (stillBy m c) (viewBy m v) o) step j (omega arith) (omega arith)
-      (subst (λ (d : Coder). On d (viewBy 0 v) x) (sym (still-none c))
-      (subst (λ (o : View). On c o x) (sym (view-none v))
-      (subst (λ (o : Window). RowRead width over t₀ c₀ code at₀ n₀ good₀ v₀ row t c o v at n good x)
-      (slid-white over (pelsTo row x) x w (f .slid) z) f))))
+      (subst₂ (λ (d : Coder) (o : View). On d o x) (sym (still-none c)) (sym (view-none v))
+      (subst (λ (o : Window). ReadTo width over t₀ c₀ code at₀ n₀ good₀ v₀ row t c o v at n good x)
+      (slid-white over (pelsTo row x) x w (f .0 .slid) z) f)))
     where
       step : (m o : ℕ) → x ≤ o → o < y → m + q ≤ s → On (stillBy m c) (viewBy m v) o
           → On (stillBy (m + q) c) (viewBy (m + q) v) (suc o)
       step m o a b g r =
           let p : (m + q) * 2 ^ v .look ≡ m * 2 ^ v .look + q * 2 ^ v .look = add-mul m q (2 ^ v .look) in
           let i : (m + q) * 2 ^ v .look ≤ s * 2 ^ v .look = mul-le-mul-right (2 ^ v .look) g in
-          subst (λ (d : Coder). On d (viewBy (m + q) v) (suc o)) (still-more m q (m + q) c refl)
-          (subst (λ (n : View). On (stillBy q (stillBy m c)) n (suc o)) (view-more m q (m + q) v refl)
-          (one (stillBy m c) (viewBy m v) o r (omega arith) (omega arith) (omega arith) (u .pels o a b)))
+          subst₂ (λ (d : Coder) (n : View). On d n (suc o)) (still-more m q (m + q) c refl)
+          (view-more m q (m + q) v refl)
+          (one (stillBy m c) (viewBy m v) o r (omega arith) (omega arith) (omega arith) (u .pels o a b))

@@ -1,2 +1,3 @@
+pub mod QEngine
 pub mod WrittenRow
 pub mod WrittenRuns

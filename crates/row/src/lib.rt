@@ -109,7 +109,7 @@ pub fn starts_run(white: u8, cx: usize, p: u8, width: usize) -> bool
 }
 
 // Where the run at x ends: as it is known, or by a look along both rows.
-fn run_end(row: &[u8], above: &[u8], width: usize, x: usize, known: usize) -> usize
+pub fn run_end(row: &[u8], above: &[u8], width: usize, x: usize, known: usize) -> usize
     requires { ⌜ (width ≤ maxWidth) × (width ≤ 8 * length (now row)) × (width ≤ 8 * length (now above)) × (x < width)
         × Clear (now row) (pelsTo (now above) width) width x known ⌝ }
     ensures { λ r. ⌜ (x ≤ r) × Clear (now (row .entry)) (pelsTo (now (above .entry)) width) width x r ⌝ }

@@ -201,7 +201,7 @@ module _ (c : Coder) (v : View) (code : List ℕ) (e : ℕ) (b : Bool) (o : ℕ)
       = seek-seeks 12 part′ ∙ ap (λ (j : ℕ). seeks j part′) m ∙ ap (seeks k) t ∙ sym (a (part′ .width)) in
       let w : part′ .width * 2 ^ k ≡ u .coder .interval .width
       = ap (λ (r : Sight). r .width) (sym s) ∙ same-width (rowOf e) b seen (lift c []) refl
-      ∙ ap (λ (r : Registers). r .interval .width) (p .registers) in
+      ∙ ap (λ (r : Registers). r .interval .width) (p .puts) in
       record {
         asked = sym d;
         told = f;

@@ -1,5 +1,5 @@
 -- The context slides: the registers' sum is document 01's at every pel. Assumes nothing.
-use mathlib.Core.Path.{_≡_, refl, sym, ap, _∙_}
+use mathlib.Core.Path.{_≡_, refl, sym, ap, _∙_, subst}
 use Prim.Native.Nat.{ℕ, zero, suc, _+_, _-_, _*_, _%_, _≤_, _<_}
 use native.Mathlib.Omega.{arith}
 use mathlib.Core.Bool.{Bool, true, false, cond, not}
@@ -98,7 +98,7 @@ pub slid-start : (above : List ℕ)
 unfolding rightOf leftOf
 slid-start above = record { five = omega arith; two = refl }
 
-pub slid-next : (above this : List ℕ) (p : ℕ) (w : Window) → Bits above → Bits this → p ≤ 1
+slid-next : (above this : List ℕ) (p : ℕ) (w : Window) → Bits above → Bits this → p ≤ 1
     → Slid above this (length this) w
     → Slid above (this ++ (p ∷ [])) (suc (length this))
     (record { above = (2 * w .above + getD above (length this + 3) 0) % 32; this = (2 * w .this + p) % 4 })
@@ -137,3 +137,13 @@ slid-next above this p w a b h s =
         → (2 * w .this + p) % 4 ≡ leftOf (this ++ (p ∷ [])) (suc (length this)) 1 + 2 * leftOf (this ++ (p ∷ []))
         (suc (length this)) 2
     two e i j = omega (arith, here, there)
+
+-- the same, with the numbers as a loop has them
+pub slid-on : (above this : List ℕ) (x p : ℕ) (w w′ : Window) → Bits above → Bits this → length this ≡ x → p ≤ 1
+    → Slid above this x w → w′ .above ≡ (2 * w .above + getD above (x + 3) 0) % 32 → w′ .this ≡ (2 * w .this + p) % 4
+    → Slid above (this ++ (p ∷ [])) (suc x) w′
+slid-on above this x p w w′ a b l h s wa wt =
+    let n = subst (λ (k : ℕ). Slid above (this ++ (p ∷ [])) (suc k)
+    (record { above = (2 * w .above + getD above (k + 3) 0) % 32; this = (2 * w .this + p) % 4 })) l
+    (slid-next above this p w a b h (subst (λ (k : ℕ). Slid above this k w) (sym l) s)) in
+    record { five = wa ∙ n .five; two = wt ∙ n .two }

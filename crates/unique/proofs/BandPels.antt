@@ -1,6 +1,6 @@
 -- The pels of a band: each 0 or 1, and told by its code. Assumes nothing.
 use mathlib.Core.Path.{_≡_, sym, ap, _∙_}
-use Prim.Native.Nat.{ℕ, zero, suc, _-_, _*_, _≤_}
+use Prim.Native.Nat.{ℕ, zero, suc, _*_, _≤_}
 use native.Mathlib.Omega.{arith}
 use mathlib.Core.List.{List, [], _∷_, _++_}
 use Rattle.coder.proofs.Writing.{AllPels}
@@ -27,7 +27,7 @@ unfolding pelsTo
 row-pels row zero = tt
 row-pels row (suc n) = pels-append (pelsTo row n) (pelAt row n ∷ []) (row-pels row n) (pel-bit row n, tt)
 
-band-pels : (width : ℕ) (band : List ℕ) (n : ℕ) → AllPels (bandTo width band n)
+pub band-pels : (width : ℕ) (band : List ℕ) (n : ℕ) → AllPels (bandTo width band n)
 unfolding bandTo
 band-pels width band zero = tt
 band-pels width band (suc n) = pels-append (bandTo width band n) (pelsTo (rowAt width band n) width)

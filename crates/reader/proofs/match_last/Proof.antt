@@ -6,8 +6,8 @@ use native.Mathlib.Numerals.{add-one}
 use native.Mathlib.Omega.{arith}
 use borrow.Author.Needs.{needs}
 use lib.ListN.{length, take}
-use Rattle.reader.specs.ReadRow.{matches}
-use Rattle.reader.proofs.ReadRow.{matches-next, with-true}
+use Rattle.engine.specs.Followed.{matches}
+use Rattle.engine.proofs.Matching.{matches-next, with-true}
 use Rattle.reader.proofs.match_last.Statement.{statement}
 use Rattle.reader.proofs.match_last.Tie as tie
 

@@ -2,7 +2,7 @@ use borrow.Author.Needs.{needs}
 -- A settled byte compared with the code. Assumes nothing.
 use mathlib.Core.Path.{refl}
 use borrow.Author.Tests.{lt-ltb, le-ltb}
-use Rattle.reader.proofs.ReadRow.{match-first, match-later}
+use Rattle.engine.proofs.Matching.{match-first, match-later}
 use Rattle.reader.proofs.match_one.Statement.{statement}
 use Rattle.reader.proofs.match_one.Tie as tie
 

@@ -4,8 +4,8 @@ use mathlib.Core.Path.{_≡_, refl, sym, _∙_}
 use native.Mathlib.Numerals.{add-one}
 use native.Mathlib.Omega.{arith}
 use borrow.Author.Tests.{not-true, not-false}
-use Rattle.reader.specs.ReadRow.{matches}
-use Rattle.reader.proofs.ReadRow.{with-true}
+use Rattle.engine.specs.Followed.{matches}
+use Rattle.engine.proofs.Matching.{with-true}
 use Rattle.reader.proofs.match_two.Statement.{statement}
 use Rattle.reader.proofs.match_two.Tie as tie
 use mathlib.Core.Bool.{true}

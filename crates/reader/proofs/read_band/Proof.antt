@@ -1,14 +1,15 @@
 -- A band is read where some band was written so, and only there. Assumes nothing.
 use mathlib.Core.Path.{_≡_}
-use Prim.Native.Nat.{_+_, _-_}
+use Prim.Native.Nat.{_+_, _-_, _≤_}
 use native.Mathlib.Nat.{mul-le-mul-right}
 use native.Mathlib.Omega.{arith}
 use borrow.Author.Needs.{needs}
 use mathlib.Core.Bool.{true, false, _&&_}
 use lib.ListN.{length, take}
 use lib.Seq.{length-take-le}
-use Rattle.limits.specs.Limits.{maxRows}
-use Rattle.reader.specs.ReadRow.{matches}
+use Rattle.limits.specs.Limits.{maxRows, farthest}
+use Rattle.engine.specs.Followed.{matches}
+use Rattle.reader.proofs.RowsRead.{reads-few}
 use Rattle.reader.proofs.Ends.{read-done, read-damaged, read-nothing, fits-when, fits-not, as-compared, counted}
 use Rattle.reader.proofs.read_band.Statement.{statement}
 use Rattle.reader.proofs.read_band.Tie as tie
@@ -41,6 +42,15 @@ counts c =
     let f = c .finish in
     let n : length (f .result .bytes) ≡ 6 = search needs in
     length-take-le (f .result .count) (f .result .bytes) (omega (arith, f .ensures .2))
+
+-- few bytes came before
+placed : (c : tie.After-finish) → rows c .read-rows .result .reading .at + c .finish .result .count ≤ farthest
+placed c =
+    let a = begin₁ c .args in
+    let q = begin₁ c .pre in
+    let f = reads-few (a .width) (a .last) (a .code .now) (a .table .entries) (a .out .now) _ _ _ _
+    (rows c .read-rows .ensures) (q .1) in
+    omega (arith, f .1, c .finish .ensures .2, q .3)
 
 compared : (c : tie.After-as-long) (v : Bool) → c .as-long .result ≡ v → let e = ended c in
     let given = begin₁ e .args .code .now in
@@ -91,10 +101,10 @@ finish-requires : tie.Need-finish-requires
 finish-requires c κs = search needs
 
 match-last-requires : tie.Need-match-last-requires
-match-last-requires c κs = search needs
+match-last-requires c κs = (c .before .finish .ensures .2, placed (c .before))
 
 add-as-long : tie.Need-add-as-long
-add-as-long c = search needs
+add-as-long c = omega (arith, placed (c .before .before .before .before))
 
 sub-as-long : tie.Need-sub-as-long
 sub-as-long c = search needs
@@ -116,7 +126,7 @@ returns-2 c =
     let z = fits-when (a .width) (a .rows) (s .result) (a .out .now) (s .ensures) (rows e .before .before .if1 .left) in
     rw (s .ensures) (read-done (a .width) (a .rows) (a .table) (a .last) (a .code .now) (a .out .now) (d .result .last)
     (d .result .reading) _ (d .ensures) (take (f .result .count) (f .result .bytes)) (f .ensures .0)
-    (omega (arith, f .ensures .1, counts e)) z (d .result .reading .at + f .result .count)
+    z (d .result .reading .at + f .result .count)
     (counted (d .result .reading .at) (f .result .count) _ (counts e)) (begin₁ e .pre .2)
     (compared m true (c .before .before .if2 .taken)))
 
@@ -138,7 +148,7 @@ returns-3 c =
     let z = fits-when (a .width) (a .rows) (s .result) (a .out .now) (s .ensures) (rows e .before .before .if1 .left) in
     rw (c .not-read2 .ensures) (read-damaged (a .width) (a .rows) (a .table) (a .last) (a .code .now) (a .out .now)
     (d .result .last) (d .result .reading) _ (d .ensures) (take (f .result .count) (f .result .bytes)) (f .ensures .0)
-    (omega (arith, f .ensures .1, counts e)) z (d .result .reading .at + f .result .count)
+    z (d .result .reading .at + f .result .count)
     (counted (d .result .reading .at) (f .result .count) _ (counts e)) (begin₁ e .pre .2)
     (compared m false (t .if2 .left)) _ (c .before .before .before .clear2 .ensures) (d .kept .1 .1 .1 .1 .1 .0))
 

@@ -4,7 +4,6 @@ use mathlib.Core.Path.{_≡_, sym, ap, _∙_, subst}
 use mathlib.Core.Logic.{⊎-elim}
 use mathlib.Core.Bool.{Bool, _&&_}
 use Rattle.coder.specs.Writing.{counted}
-use Rattle.band.proofs.Revisits.{no-more-than-shifts}
 use Prim.Native.Nat.{ℕ, _+_, _-_, _*_, _≤_}
 use native.Mathlib.Numerals.{add-one}
 use native.Mathlib.Omega.{arith}
@@ -12,20 +11,27 @@ use borrow.Author.Needs.{needs}
 use mathlib.Core.List.{[]}
 use lib.ListN.{getD, set}
 use Rattle.estimate.specs.declared.Table.{Table}
+use Rattle.estimate.specs.Estimate.{LawfulTable}
 use Rattle.estimate.proofs.LawfulEntries.{row-sized}
 use Rattle.octets.proofs.OnePel.{low-fits}
 use Rattle.template.specs.Pels.{pelsTo}
+use Rattle.template.specs.Packing.{Row}
 use Rattle.template.specs.White.{Under}
 use Rattle.template.proofs.White.{under-none, under-part}
 use Rattle.template.proofs.Sliding.{pels-bits, slid-context}
 use Rattle.template.proofs.Packing.{row-none}
-use Rattle.row.specs.WrittenRow.{bytesOf}
-use Rattle.row.proofs.WrittenRow.{pelled-kept}
+use Rattle.engine.proofs.Coded.{pelled-kept}
+use Rattle.engine.proofs.Followed.{match-none}
+use Rattle.row.specs.QEngine.{qEngine}
+use Rattle.row.specs.WrittenRow.{bytesOf, given}
+use Rattle.row.proofs.QEngine.{qIsEngine}
+use Rattle.row.proofs.WrittenRow.{qSeven}
+use Rattle.unique.specs.QCoder.{qReader}
 use Rattle.sight.proofs.Views.{told-bit}
-use Rattle.reader.proofs.ReadRow.{RowRead, read-start, read-turn, read-window, read-room}
-use Rattle.reader.specs.ReadRow.{matches}
-use Rattle.reader.proofs.ReadRuns.{told-so, match-none, read-run}
-use Rattle.reader.proofs.RowRead.{line-read}
+use Rattle.reader.proofs.ReadRow.{read-told, read-start, read-turn, read-window, read-lawful, read-few}
+use Rattle.reader.proofs.ReadRow.{read-room, read-whole}
+use Rattle.engine.specs.Followed.{matches}
+use Rattle.reader.proofs.ReadRuns.{ReadTo, told-so, read-run}
 use Rattle.reader.proofs.read_row.Statement.{statement}
 use Rattle.reader.proofs.read_row.Tie as tie
 use Prim.Native.Nat.{_<_}
@@ -33,7 +39,7 @@ use Prim.Native.Nat.{_<_}
 abbrev Inv-loop : tie.InvT-loop
 Inv-loop code above width coder₀ table₀ at₀ revisits₀ good₀ view₀ window₀ row₀ end₀ x₀ coder table at revisits good view
     window row end x =
-    RowRead width (pelsTo above width) (table₀ .entries) coder₀ code at₀ revisits₀ good₀ view₀
+    ReadTo width (pelsTo above width) (table₀ .entries) coder₀ code at₀ revisits₀ good₀ view₀
     row (table .entries) coder window view at revisits good x
     × (end ≤ width) × Under (pelsTo above width) x end
 
@@ -80,7 +86,18 @@ pel-turn c = turn (looked c)
 edge : (c : tie.In-loop Inv-loop μ-loop) → let w = c .before .loop .window in (w .above < 32) × (w .this < 4)
 edge c =
     let a = begin₁ c .args in
-    read-window _ _ _ _ _ _ _ _ _ _ _ _ _ _ _ _ _ _ (pels-bits (a .above .now) (a .width)) (c .before .loop .inv .0)
+    read-window qEngine qIsEngine qSeven qReader _ _ _ _ _ _ _ _ _ _ _ _ _ _ _ _ _ _ (c .before .loop .inv .0 .0)
+    (pels-bits (a .above .now) (a .width))
+
+-- the table is lawful, and few shifts, bytes and revisited pels came with this row
+lawful : (c : tie.In-loop Inv-loop μ-loop) → LawfulTable (c .before .loop .table .entries)
+lawful c = read-lawful qEngine qIsEngine qSeven qReader _ _ _ _ _ _ _ _ _ _ _ _ _ _ _ _ _ _ (c .before .loop .inv .0 .0)
+
+few : (c : tie.In-loop Inv-loop μ-loop) → let l = c .before .loop in let s = begin₁ c .args .start in
+    (l .coder .interval .count ≤ s .coder .interval .count + 12 * l .x) × (l .at ≤ s .at + 2 * l .x)
+    × (l .revisits ≤ l .coder .interval .count)
+few c = read-few qEngine qIsEngine qSeven qReader _ _ _ _ _ _ _ _ _ _ _ _ _ _ _ _ _ _ (c .before .loop .inv .0 .0)
+    (begin₁ c .pre .7)
 
 -- ---- the answers
 start-requires : tie.Need-start-requires Inv-loop μ-loop
@@ -89,7 +106,10 @@ start-requires c κs = begin c .pre .1
 loop-holds : tie.Need-loop-holds Inv-loop μ-loop
 loop-holds c =
     let p = begin (c .before) .pre in (
-      read-start _ _ _ _ _ _ _ _ _ _ (c .start .ensures) (p .3) (p .4) row-none (p .8) (p .9) (p .10),
+      (
+        read-start qEngine qIsEngine qSeven qReader _ _ _ _ _ _ _ _ _ _ (c .start .ensures) (p .3) (p .4) row-none,
+        record { within = p .8; near = p .9; small = p .10 },
+      ),
       omega arith,
       under-none _ _ _ (omega arith),
     )
@@ -114,13 +134,14 @@ run-end-requires c κs =
     (p .0, p .1, t .loop-test .taken, i .1, i .2)
 
 row-of-requires : tie.Need-row-of-requires Inv-loop μ-loop
-row-of-requires c κs = run-turn (c .before) .before .loop .inv .0 .lawful 0
+row-of-requires c κs = lawful (run-turn (c .before)) 0
 
 sub-fits : tie.Need-sub-fits Inv-loop μ-loop
 sub-fits c = c .before .run-end .ensures .0
 
 room-requires : tie.Need-room-requires Inv-loop μ-loop
-room-requires c κs = let i = run-turn (c .before .before) .before .loop .inv .0 in (i .ready .wide, i .near)
+room-requires c κs = let i = run-turn (c .before .before) .before .loop .inv .0 in
+    (i .0 .done .coded .ready .wide, i .1 .near)
 
 fits-requires : tie.Need-fits-requires Inv-loop μ-loop
 fits-requires c κs =
@@ -128,7 +149,7 @@ fits-requires c κs =
     let l = t .before .loop in
     let e = c .before .row-of .ensures in
     let r = row-sized (getD (l .table .entries) 0 0) in
-    let f = l .inv .0 .ready .rest .fit in (
+    let f = l .inv .0 .0 .done .coded .ready .rest .fit in (
       omega (arith, c .before .before .run-end .ensures .1, begin₁ t .pre .0),
       omega (arith, e, r .some),
       omega (arith, e, r .small),
@@ -138,20 +159,20 @@ fits-requires c κs =
 mul-size : tie.Need-mul-size Inv-loop μ-loop
 mul-size c =
     let g = c .before .before in
-    let f = run-turn (run g) .before .loop .inv .0 .ready .rest .fit in
+    let f = run-turn (run g) .before .loop .inv .0 .0 .done .coded .ready .rest .fit in
     omega (arith, c .before .fits2 .ensures .1, g .room .ensures .0, f .narrow)
 
 still-requires : tie.Need-still-requires Inv-loop μ-loop
 still-requires c κs =
     let g = c .before .before in
-    let f = run-turn (run g) .before .loop .inv .0 .ready .rest .fit in
+    let f = run-turn (run g) .before .loop .inv .0 .0 .done .coded .ready .rest .fit in
     (omega (arith, c .before .fits2 .ensures .1, g .room .ensures .0), omega (arith, f .narrow), low-fits _ f)
 
 still-requires-2 : tie.Need-still-requires-2 Inv-loop μ-loop
 still-requires-2 c κs =
     let g = c .before .before .before in
     let i = run-turn (run g) .before .loop .inv .0 in
-    (i .near, told-so _ _ _ _ _ (c .before .before .fits2 .ensures .1) (g .room .ensures .1), i .small)
+    (i .1 .near, told-so _ _ _ _ _ (c .before .before .fits2 .ensures .1) (g .room .ensures .1), i .1 .small)
 
 add-x : tie.Need-add-x Inv-loop μ-loop
 add-x c =
@@ -203,15 +224,21 @@ read-pel-requires : tie.Need-read-pel-requires Inv-loop μ-loop
 read-pel-requires c κs =
     let t = turn (c .before .before .before) in
     let i = t .before .loop .inv .0 in
-    let p = begin₁ t .pre in
-    (i .ready, i .lawful _, omega (arith, i .count, t .loop-test .taken, p .0, p .5), i .within, i .near, i .small)
+    let p = begin₁ t .pre in (
+      i .0 .done .coded .ready,
+      lawful t _,
+      omega (arith, few t .0, t .loop-test .taken, p .0, p .5),
+      i .1 .within,
+      i .1 .near,
+      i .1 .small,
+    )
 
 add-revisits : tie.Need-add-revisits Inv-loop μ-loop
 add-revisits c =
     let t = pel-turn (c .before) in
-    let i = t .before .loop .inv .0 in
+    let i = t .before .loop .inv .0 .0 in
     let p = begin₁ t .pre in
-    omega (arith, no-more-than-shifts _ _ _ _ (i .stage) (p .7), i .count, i .passed, p .0, p .5)
+    omega (arith, few t .2, few t .0, i .passed, p .0, p .5)
 
 element-write-table : tie.Need-element-write-table Inv-loop μ-loop
 element-write-table c = let w = edge (pel-turn (c .before)) in omega arith
@@ -219,18 +246,17 @@ element-write-table c = let w = edge (pel-turn (c .before)) in omega arith
 match-two-requires : tie.Need-match-two-requires Inv-loop μ-loop
 match-two-requires c κs =
     let t = pel-turn (c .before) in
-    let i = t .before .loop .inv .0 in
     let p = begin₁ t .pre in
     let n = told (c .before) .read-pel .ensures .pelled .few in
-    (n, omega (arith, i .place, i .few, t .loop-test .taken, n, p .0, p .6))
+    (n, omega (arith, few t .1, t .loop-test .taken, n, p .0, p .6))
 
 add-at : tie.Need-add-at Inv-loop μ-loop
 add-at c =
     let v = c .before .before .before in
     let t = pel-turn v in
-    let i = t .before .loop .inv .0 in
+    let i = t .before .loop .inv .0 .0 in
     let p = begin₁ t .pre in
-    omega (arith, i .place, i .few, i .passed, p .0, p .6, told v .read-pel .ensures .pelled .few)
+    omega (arith, few t .1, i .passed, p .0, p .6, told v .read-pel .ensures .pelled .few)
 
 slide-requires : tie.Need-slide-requires Inv-loop μ-loop
 slide-requires c κs =
@@ -256,9 +282,9 @@ add-row c =
     let t = pel-turn v in
     let l = t .before .loop in
     let r = told v .read-pel in
-    let h = read-room _ _ _ _ _ _ _ _ _ (l .row) (l .table .entries) (l .coder) (l .window) (l .view) (l .at)
-    (l .revisits) (l .good) (l .x) (r .result .p) (l .inv .0) (omega (arith, t .loop-test .taken, begin₁ t .pre .0))
-    (told-bit _ _ _ _ _ (r .ensures)) in
+    let h = read-room qEngine qIsEngine qSeven qReader _ _ _ _ _ _ _ _ _ (l .row) (l .table .entries) (l .coder)
+    (l .window) _ (l .at) (l .revisits) (l .good) (l .x) (l .inv .0 .0) (r .result .p)
+    (omega (arith, t .loop-test .taken, begin₁ t .pre .0)) (told-bit _ _ _ _ _ (r .ensures)) in
     omega (arith, c .pel-in-byte .ensures .0, h)
 
 array-write-row : tie.Need-array-write-row Inv-loop μ-loop
@@ -293,25 +319,30 @@ loop-again-2 c =
       w .5 ∙ add-one (l .revisits) ∙ ap (λ (b : Bool). counted b (l .revisits)) (sym (w .0 .taken)),
       w .6 ∙ w .1 .ensures,
     ))
-    (λ w. let k = pelled-kept (l .coder) (l .table .entries) [] cx (l .at) (l .revisits) _ v (r .ensures .pelled)
-    (w .0 .left) in (
+    (λ w. let k = pelled-kept qEngine qIsEngine (l .coder) (l .table .entries) [] cx (l .at) (l .revisits) _ (given v)
+    (r .ensures .pelled) (w .0 .left) in (
       ap (λ (u : Table). u .entries) (w .1) ∙ k .0,
       w .2 ∙ k .2,
       w .3 ∙ k .3,
-      w .4 ∙ match-none (l .coder) _ _ v (a .code .now) (l .at) (l .good) (r .ensures .pelled) (w .0 .left),
+      w .4 ∙ match-none qEngine qIsEngine qReader (l .coder) _ _ (given v) (a .code .now) (l .at) (l .good)
+          (r .ensures .pelled) (w .0 .left),
     )) (j .came) in
     let reach : (m .end ≤ a .width) × Under above (l .x) (m .end)
     = ⊎-elim
     (λ w. subst (λ (z : ℕ). (z ≤ a .width) × Under above (l .x) z) (sym (w .6)) (w .1 .ensures .1, w .1 .ensures .2))
     (λ w. subst (λ (z : ℕ). (z ≤ a .width) × Under above (l .x) z) (sym (w .1)) (l .inv .1, l .inv .2)) (m .came) in
     rw add-one (
-      read-turn (a .width) above (a .start .table .entries) (a .start .coder) (a .code .now) (a .start .at)
-          (a .start .revisits) (a .start .good) (a .start .view) (l .row) (l .table .entries) (l .coder) (l .window)
-          (l .view) (l .at) (l .revisits) (l .good) (l .x) (l .inv .0) (t .loop-test .taken) (begin₁ t .pre .0)
-          (pels-bits (a .above .now) (a .width)) (r .result) cx (r .result .p) (y .result) (j .table .entries)
-          (s .result) (j .at) (j .revisits) (j .good) (put .0) (slid-context _ _ _ _ (l .inv .0 .slid)) (r .ensures)
-          (r .ensures .told) (y .ensures .0) (s .ensures .0) (s .ensures .1) (put .1) (put .2)
-          (put .3),
+      (
+        read-turn qEngine qIsEngine qSeven qReader (a .width) above (a .start .table .entries) (a .start .coder)
+            (a .code .now) (a .start .at) (a .start .revisits) (a .start .good) _ (l .row) (l .table .entries)
+            (l .coder) (l .window) _ (l .at) (l .revisits) (l .good) (l .x) (l .inv .0 .0) (given v)
+            (t .loop-test .taken) (begin₁ t .pre .0) (r .result .expected) cx (r .result .p) (y .result) _
+            (j .table .entries) (s .result) (j .at) (j .revisits) (j .good) (pels-bits (a .above .now) (a .width))
+            (slid-context _ _ _ _ (l .inv .0 .0 .slid))
+            (read-told (l .coder) (l .view) (a .code .now) _ (r .result) (r .ensures)) (y .ensures .0) (put .0)
+            (s .ensures .0) (s .ensures .1) (put .1) (put .2) (put .3),
+        record { within = r .ensures .within; near = r .ensures .near; small = r .ensures .small },
+      ),
       reach .0,
       under-part _ _ _ _ _ (omega arith) (omega arith) (reach .1),
     )
@@ -319,8 +350,15 @@ loop-again-2 c =
 returns : tie.Need-returns Inv-loop μ-loop
 returns c =
     let l = c .before .loop in
-    line-read _ _ _ _ (begin (c .before .before .before) .pre .2) _ _ _
-    (omega (arith, l .inv .0 .passed, c .loop-test .left)) (l .inv .0)
+    let i = l .inv .0 in
+    let w : l .x ≡ begin (c .before .before .before) .args .width
+    = omega (arith, i .0 .passed, c .loop-test .left) in
+    record {
+      done = read-whole qEngine qIsEngine qSeven qReader _ _ _ _ _ _ _ _ _ _ _ _ _ _ _ _ _ _ (i .0)
+          (begin (c .before .before .before) .pre .2) w;
+      packed = subst (Row (l .row)) w (i .0 .packed);
+      sight = i .1;
+    }
 
 pub read-row-spec : {M : Type 1} → statement M
 read-row-spec =

@@ -7,9 +7,8 @@ use native.Mathlib.Omega.{arith}
 use borrow.Author.Needs.{needs}
 use lib.ListN.{length}
 use Rattle.limits.specs.Limits.{maxRows, lastBytes}
-use Rattle.band.proofs.Revisits.{no-more-than-shifts}
 use Rattle.reader.specs.Reads.{BandRead}
-use Rattle.reader.proofs.RowsRead.{reads-start, reads-again, next-room}
+use Rattle.reader.proofs.RowsRead.{reads-start, reads-few, reads-again, next-room}
 use Rattle.reader.proofs.read_rows.Statement.{statement}
 use Rattle.reader.proofs.read_rows.Tie as tie
 use Prim.Native.Nat.{ℕ, _+_, _*_}
@@ -64,8 +63,9 @@ loop-holds c =
       omega arith,
       refl,
       n,
-      reads-start (a .width) (a .last) (a .code .now) (a .table .entries) (a .out .now) _ (c .before .start .ensures)
-          refl (s .pre .4) refl refl refl (v .ensures .0) (v .ensures .1) (v .ensures .2) (v .ensures .3),
+      reads-start (a .width) (a .last) (a .code .now) (a .table) (a .out .now) _ _ (c .before .start .ensures)
+          (s .pre .4) (v .ensures .0)
+          (record { within = v .ensures .1; near = v .ensures .2; small = v .ensures .3 }),
     )
 
 slice-aggregate-read-row : tie.Need-slice-aggregate-read-row Inv-loop μ-loop
@@ -76,18 +76,19 @@ read-row-requires c κs =
     let l = c .before .before in
     let q = begin (sized l) .pre in
     let b = l .loop .inv .3 in
+    let f = reads-few _ _ _ _ _ _ _ _ _ b (q .1) in
     let t = c .before .loop-test .taken in (
       q .1,
       omega (arith, l .loop .inv .2, q .1),
       q .0,
-      b .lawful,
-      b .ready,
-      omega (arith, b .count, t, q .2),
-      omega (arith, b .place, b .few, t, q .2),
-      no-more-than-shifts _ _ _ _ (b .stage) (omega arith),
-      b .within,
-      b .near,
-      b .small,
+      b .done .coded .lawful,
+      b .done .coded .ready,
+      omega (arith, f .0, t, q .2),
+      omega (arith, f .1, t, q .2),
+      f .2,
+      b .sight .within,
+      b .sight .near,
+      b .sight .small,
     )
 
 mul-put-row : tie.Need-mul-put-row Inv-loop μ-loop

@@ -4,12 +4,12 @@ use mathlib.Core.Path.{_≡_, sym, ap, _∙_, subst}
 use mathlib.Core.Logic.{⊎-elim}
 use mathlib.Core.Bool.{Bool}
 use Rattle.coder.specs.Writing.{counted}
-use Rattle.band.proofs.Revisits.{no-more-than-shifts}
 use Prim.Native.Nat.{ℕ, _+_, _-_, _*_}
 use native.Mathlib.Numerals.{add-one}
 use native.Mathlib.Omega.{arith}
 use borrow.Author.Needs.{needs}
 use lib.ListN.{getD, set}
+use Rattle.estimate.specs.Estimate.{LawfulTable}
 use Rattle.estimate.proofs.LawfulEntries.{row-sized}
 use Rattle.octets.proofs.OnePel.{low-fits}
 use Rattle.store.specs.Store.{stores}
@@ -18,18 +18,21 @@ use Rattle.template.specs.White.{Clear}
 use Rattle.template.proofs.White.{clear-none, clear-later}
 use Rattle.template.proofs.Sliding.{pels-bits, slid-context}
 use Rattle.estimate.specs.declared.Table.{Table}
-use Rattle.row.specs.WrittenRow.{bytesOf}
-use Rattle.row.proofs.WrittenRow.{RowAt, pelled-kept}
-use Rattle.row.proofs.WrittenRow.{row-start, row-again, row-done, row-window, row-length}
-use Rattle.row.proofs.WrittenRuns.{row-run}
+use Rattle.engine.proofs.Coded.{pelled-kept}
+use Rattle.row.specs.QEngine.{qEngine}
+use Rattle.row.specs.WrittenRow.{bytesOf, given}
+use Rattle.row.proofs.QEngine.{qIsEngine}
+use Rattle.row.proofs.WrittenRow.{qSeven, RowAt, row-start, row-again, row-done, row-window, row-lawful}
+use Rattle.row.proofs.WrittenRow.{row-count, row-place, row-revisits, row-length}
+use Rattle.row.proofs.WrittenRuns.{qStills, row-run}
 use Rattle.row.proofs.write_row.Statement.{statement}
 use Rattle.row.proofs.write_row.Tie as tie
-use Prim.Native.Nat.{_<_}
+use Prim.Native.Nat.{_≤_, _<_}
 
 abbrev Inv-loop : tie.InvT-loop
 Inv-loop row above width out₀ coder₀ table₀ at₀ revisits₀ window₀ end₀ x₀ out coder table at revisits window end x =
-    RowAt width (pelsTo above width) row (table₀ .entries) coder₀ out₀ at₀ revisits₀ (table .entries) coder window out
-    at revisits x
+    RowAt qEngine qIsEngine qSeven width (pelsTo above width) row (table₀ .entries) coder₀ out₀ at₀ revisits₀
+    (table .entries) coder window out at revisits x
     × Clear row (pelsTo above width) width x end
 
 abbrev μ-loop : tie.MeasureT-loop
@@ -70,7 +73,22 @@ pel-turn c = turn (looked c)
 edge : (c : tie.In-loop Inv-loop μ-loop) → let w = c .before .loop .window in (w .above < 32) × (w .this < 4)
 edge c =
     let a = begin₁ c .args in
-    row-window _ _ _ _ _ _ _ _ _ _ _ _ _ _ _ (pels-bits (a .above .now) (a .width)) (c .before .loop .inv .0)
+    row-window qEngine qIsEngine qSeven _ _ _ _ _ _ _ _ _ _ _ _ _ _ _ (c .before .loop .inv .0)
+    (pels-bits (a .above .now) (a .width))
+
+-- the table is lawful, and few shifts, bytes and revisited pels came with this row
+lawful : (c : tie.In-loop Inv-loop μ-loop) → LawfulTable (c .before .loop .table .entries)
+lawful c = row-lawful qEngine qIsEngine qSeven _ _ _ _ _ _ _ _ _ _ _ _ _ _ _ (c .before .loop .inv .0)
+
+few : (c : tie.In-loop Inv-loop μ-loop) → let l = c .before .loop in let s = begin₁ c .args .start in
+    (l .coder .interval .count ≤ s .coder .interval .count + 12 * l .x) × (l .at ≤ s .at + 2 * l .x)
+    × (l .revisits ≤ l .coder .interval .count)
+few c =
+    let i = c .before .loop .inv .0 in (
+      row-count qEngine qIsEngine qSeven _ _ _ _ _ _ _ _ _ _ _ _ _ _ _ i,
+      row-place qEngine qIsEngine qSeven _ _ _ _ _ _ _ _ _ _ _ _ _ _ _ i,
+      row-revisits qEngine qIsEngine qSeven _ _ _ _ _ _ _ _ _ _ _ _ _ _ _ i (begin₁ c .pre .8),
+    )
 
 -- ---- the answers
 start-requires : tie.Need-start-requires Inv-loop μ-loop
@@ -78,8 +96,10 @@ start-requires c κs = omega arith
 
 loop-holds : tie.Need-loop-holds Inv-loop μ-loop
 loop-holds c =
-    let p = begin (c .before) .pre in
-    (row-start _ _ _ _ _ _ _ _ _ (c .start .ensures) (p .4) (p .5), clear-none _ _ _ _ _ (omega arith) (omega arith))
+    let p = begin (c .before) .pre in (
+      row-start qEngine qIsEngine qSeven _ _ _ _ _ _ _ _ _ (c .start .ensures) (p .4) (p .5),
+      clear-none _ _ _ _ _ (omega arith) (omega arith),
+    )
 
 pel-at-requires : tie.Need-pel-at-requires Inv-loop μ-loop
 pel-at-requires c κs = omega arith
@@ -103,13 +123,13 @@ run-end-requires c κs =
     (p .0, p .1, p .2, t .loop-test .taken, t .before .loop .inv .1)
 
 row-of-requires : tie.Need-row-of-requires Inv-loop μ-loop
-row-of-requires c κs = run-turn (c .before) .before .loop .inv .0 .lawful 0
+row-of-requires c κs = lawful (run-turn (c .before)) 0
 
 sub-fits : tie.Need-sub-fits Inv-loop μ-loop
 sub-fits c = c .before .run-end .ensures .0
 
 sub-fits-2 : tie.Need-sub-fits-2 Inv-loop μ-loop
-sub-fits-2 c = run-turn (run c) .before .loop .inv .0 .ready .wide
+sub-fits-2 c = run-turn (run c) .before .loop .inv .0 .done .coded .ready .wide
 
 fits-requires : tie.Need-fits-requires Inv-loop μ-loop
 fits-requires c κs =
@@ -117,7 +137,7 @@ fits-requires c κs =
     let l = t .before .loop in
     let e = c .before .row-of .ensures in
     let r = row-sized (getD (l .table .entries) 0 0) in
-    let f = l .inv .0 .ready .rest .fit in (
+    let f = l .inv .0 .done .coded .ready .rest .fit in (
       omega (arith, c .before .before .run-end .ensures .1 .within, begin₁ t .pre .0),
       omega (arith, e, r .some),
       omega (arith, e, r .small),
@@ -126,12 +146,12 @@ fits-requires c κs =
 
 mul-size : tie.Need-mul-size Inv-loop μ-loop
 mul-size c =
-    let f = run-turn (run (c .before .before)) .before .loop .inv .0 .ready .rest .fit in
+    let f = run-turn (run (c .before .before)) .before .loop .inv .0 .done .coded .ready .rest .fit in
     omega (arith, c .before .fits2 .ensures .1, f .narrow)
 
 still-requires : tie.Need-still-requires Inv-loop μ-loop
 still-requires c κs =
-    let f = run-turn (run (c .before .before)) .before .loop .inv .0 .ready .rest .fit in
+    let f = run-turn (run (c .before .before)) .before .loop .inv .0 .done .coded .ready .rest .fit in
     (omega (arith, c .before .fits2 .ensures .1), omega (arith, f .narrow), low-fits _ f)
 
 add-x : tie.Need-add-x Inv-loop μ-loop
@@ -164,11 +184,11 @@ loop-again c =
     let n = c .before .before .before .fits2 in
     let so = r .before .starts-run .ensures (r .if1 .taken) in
     rw (c .before .still .ensures, c .white2 .ensures) (
-      row-run (a .width) (pelsTo (a .above .now) (a .width)) (a .row .now) _ _ _ _ _ (l .table .entries) _ _ _
-          (so .0)
-          (pels-bits (a .above .now) (a .width)) (l .coder) (l .window) (l .x) (u .result) (n .result) _
-          (l .inv .0) (so .1) (u .ensures .1) (u .ensures .0) (n .ensures .0)
-          (ap (λ (z : ℕ). n .result * z) (q .ensures)) (omega (arith, n .ensures .1, l .inv .0 .ready .wide)),
+      row-run qEngine qIsEngine qStills qSeven (a .width) (pelsTo (a .above .now) (a .width)) (a .row .now) _ _ _ _ _
+          (l .table .entries) _ _ _ (so .0) (pels-bits (a .above .now) (a .width)) (l .coder) (l .window) (l .x)
+          (u .result) (n .result) _ (l .inv .0) (so .1) (u .ensures .1) (u .ensures .0) (n .ensures .0)
+          (ap (λ (z : ℕ). n .result * z) (q .ensures))
+          (omega (arith, n .ensures .1, l .inv .0 .done .coded .ready .wide)),
       clear-later _ _ _ _ _ _ (omega arith) (u .ensures .1),
     )
 
@@ -180,14 +200,13 @@ put-pel-requires c κs =
     let t = turn (c .before .before .before) in
     let i = t .before .loop .inv .0 in
     let p = begin₁ t .pre in
-    (i .ready, i .lawful _, omega (arith, i .count, t .loop-test .taken, p .6, p .0))
+    (i .done .coded .ready, lawful t _, omega (arith, few t .0, t .loop-test .taken, p .6, p .0))
 
 add-revisits : tie.Need-add-revisits Inv-loop μ-loop
 add-revisits c =
     let t = pel-turn (c .before) in
-    let i = t .before .loop .inv .0 in
     let p = begin₁ t .pre in
-    omega (arith, no-more-than-shifts _ _ _ _ (i .stage) (p .8), i .count, t .loop-test .taken, p .6, p .0)
+    omega (arith, few t .2, few t .0, t .loop-test .taken, p .6, p .0)
 
 element-write-table : tie.Need-element-write-table Inv-loop μ-loop
 element-write-table c = let w = edge (pel-turn (c .before)) in omega arith
@@ -195,10 +214,9 @@ element-write-table c = let w = edge (pel-turn (c .before)) in omega arith
 put-two-requires : tie.Need-put-two-requires Inv-loop μ-loop
 put-two-requires c κs =
     let t = pel-turn (c .before .before) in
-    let i = t .before .loop .inv .0 in
     let p = begin₁ t .pre in
     let n = c .before .before .before .put-pel .ensures .few in
-    (n, omega (arith, i .place, i .few, t .loop-test .taken, n, p .0, p .7))
+    (n, omega (arith, few t .1, t .loop-test .taken, n, p .0, p .7))
 
 slide-requires : tie.Need-slide-requires Inv-loop μ-loop
 slide-requires c κs =
@@ -235,28 +253,29 @@ loop-again-2 c =
       w .7 ∙ w .2 .ensures .0,
       w .8 ∙ add-one (l .revisits) ∙ ap (λ (s : Bool). counted s (l .revisits)) (sym (w .0 .taken)),
     ))
-    (λ w. let k = pelled-kept (l .coder) (l .table .entries) (l .out) cx (l .at) (l .revisits) _ (v .result)
-    (v .ensures) (w .0 .left) in
+    (λ w. let k = pelled-kept qEngine qIsEngine (l .coder) (l .table .entries) (l .out) cx (l .at) (l .revisits) _
+    (given (v .result)) (v .ensures) (w .0 .left) in
     (ap (λ (u : Table). u .entries) (w .2) ∙ k .0, w .1 ∙ k .1, w .3 ∙ k .2, w .4 ∙ k .3)) (j .came) in
     let reach : Clear (a .row .now) above (a .width) (l .x) (m .end)
     = ⊎-elim
     (λ w. subst (λ (z : ℕ). Clear (a .row .now) above (a .width) (l .x) z) (sym (w .6)) (w .1 .ensures .1))
     (λ w. subst (λ (z : ℕ). Clear (a .row .now) above (a .width) (l .x) z) (sym (w .1)) (l .inv .1)) (m .came) in
     rw add-one (
-      row-again (a .width) above (a .row .now) _ _ _ _ _ (l .table .entries) (l .coder) (l .window) (l .out) (l .at)
-          (l .revisits) (l .x) (v .result) (l .inv .0) (t .loop-test .taken) cx (p .result) (j .table .entries)
-          (s .result) (j .out) (j .at) (j .revisits) (put .0) (pels-bits (a .above .now) (a .width))
-          (slid-context _ _ _ _ (l .inv .0 .slid)) (p .ensures .0) (v .ensures) (s .ensures .0) (s .ensures .1)
-          (put .1) (put .2) (put .3),
+      row-again qEngine qIsEngine qSeven (a .width) above (a .row .now) _ _ _ _ _ (l .table .entries) (l .coder)
+          (l .window) (l .out) (l .at) (l .revisits) (l .x) (l .inv .0) (given (v .result)) (t .loop-test .taken) cx
+          (p .result) (j .table .entries) (s .result) (j .out) (j .at) (j .revisits)
+          (pels-bits (a .above .now) (a .width)) (slid-context _ _ _ _ (l .inv .0 .slid)) (p .ensures .0) (v .ensures)
+          (put .0) (s .ensures .0) (s .ensures .1) (put .1) (put .2) (put .3),
       clear-later _ _ _ _ _ _ (omega arith) reach,
     )
 
 same-length : tie.Need-same-length Inv-loop μ-loop
-same-length c = row-length _ _ _ _ _ _ _ _ _ _ _ _ _ _ _ (c .before .loop .inv .0)
+same-length c = row-length qEngine qIsEngine qSeven _ _ _ _ _ _ _ _ _ _ _ _ _ _ _ (c .before .loop .inv .0)
 
 returns : tie.Need-returns Inv-loop μ-loop
 returns c =
-    row-done _ _ _ _ _ _ _ _ _ _ _ _ _ _ _ (c .before .loop .inv .0) (omega (arith, c .before .loop .inv .0 .passed))
+    row-done qEngine qIsEngine qSeven _ _ _ _ _ _ _ _ _ _ _ _ _ _ _ (c .before .loop .inv .0)
+    (begin (c .before .before .before) .pre .3) (omega (arith, c .before .loop .inv .0 .passed))
 
 pub write-row-spec : {M : Type 1} → statement M
 write-row-spec =

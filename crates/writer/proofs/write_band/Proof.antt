@@ -6,7 +6,7 @@ use borrow.Author.Needs.{needs}
 use lib.ListN.{length, take}
 use lib.Seq.{length-take-le}
 use Rattle.template.specs.Pels.{rowAt}
-use Rattle.writer.proofs.RowByRow.{with-room, without-room}
+use Rattle.writer.proofs.RowByRow.{band-few, with-room, without-room}
 use Rattle.writer.proofs.write_band.Statement.{statement}
 use Rattle.writer.proofs.write_band.Tie as tie
 
@@ -47,7 +47,13 @@ finish-requires : tie.Need-finish-requires
 finish-requires c κs = search needs
 
 put-last-requires : tie.Need-put-last-requires
-put-last-requires c κs = search needs
+put-last-requires c κs =
+    let e = c .before .before in
+    let a = begin (rows e) .args in
+    let p = begin (rows e) .pre in
+    let f = band-few (a .width) (a .last) (a .pels .now) (a .table .entries) (a .out .now) _ _ _ _ _ _ _
+    (rows e .write-rows .ensures) (p .1) in
+    (e .finish .ensures .2, omega (arith, f .1, e .finish .ensures .2, p .3))
 
 sub-n : tie.Need-sub-n
 sub-n c = search needs

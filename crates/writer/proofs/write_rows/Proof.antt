@@ -10,10 +10,9 @@ use Rattle.limits.specs.Limits.{lastBytes}
 use Rattle.template.specs.Pels.{rowAt, rowBytes}
 use Rattle.octets.specs.Fit.{Ready}
 use Rattle.octets.proofs.Fit.{ready-start}
-use Rattle.band.proofs.Revisits.{no-more-than-shifts}
 use Rattle.writer.specs.RowByRow.{BandAt}
 use Rattle.writer.proofs.RowByRow.{RowsKeep, band-first, start-count}
-use Rattle.writer.proofs.RowByRow.{keep-next, rows-fit, row-inside, band-length}
+use Rattle.writer.proofs.RowByRow.{keep-next, rows-fit, row-inside, band-length, band-few}
 use Rattle.writer.proofs.write_rows.Statement.{statement}
 use Rattle.writer.proofs.write_rows.Tie as tie
 
@@ -65,7 +64,7 @@ begun c =
     let m = s .row-bytes in
     let k = c .before .before .before .before .start in
     band-first (a .width) (a .t2) (a .pels .now) (a .table .entries) (a .out .now) (m .result) (k .result) _ _ _ _ _
-    (m .ensures) (q .0) (q .1) (k .ensures) (q .5) (c .write-row .ensures)
+    (m .ensures) (k .ensures) (q .5) (c .write-row .ensures)
 
 -- the rows so far
 kept : (c : tie.At-loop Inv-loop μ-loop) → let a = begin₁ c .args in let l = c .loop in
@@ -115,17 +114,18 @@ write-next-requires c κs =
     let q = begin₁ (c .before .before) .pre in
     let l = c .before .before .loop in
     let b = kept (c .before .before) in
+    let f = band-few _ _ _ _ _ _ _ _ _ _ _ _ b (q .1) in
     let t : l .y < a .rows = c .before .loop-test .taken in (
       q .0,
       q .1,
       omega (arith, l .inv .0),
       omega (arith, t, q .3),
       row-inside (a .width) (a .pels .now) (a .rows) _ (omega (arith, t, l .inv .0)) (q .4),
-      b .lawful,
-      b .ready,
-      omega (arith, b .count, t, q .3),
-      omega (arith, b .place, b .few, t, q .3),
-      no-more-than-shifts _ _ _ _ (b .stage) (omega arith),
+      b .done .coded .lawful,
+      b .done .coded .ready,
+      omega (arith, f .0, t, q .3),
+      omega (arith, f .1, t, q .3),
+      f .2,
     )
 
 add-y : tie.Need-add-y Inv-loop μ-loop
@@ -144,7 +144,7 @@ loop-again c =
       omega (arith, l .inv .0),
       omega (arith, t .loop-test .taken),
       v .kept .1 .1 .1 .1 .0 ∙ l .inv .2,
-      keep-next (a .width) (a .pels .now) _ (l .run) (v .result) _ (l .out) _ (l .y) _ (q .0) (q .1) (l .inv .0)
+      keep-next (a .width) (a .pels .now) _ (l .run) (v .result) _ (l .out) _ (l .y) _ (l .inv .0)
           (l .inv .3) (v .ensures) (omega (arith, l .inv .0)),
     )
 

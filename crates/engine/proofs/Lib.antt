@@ -1,0 +1,5 @@
+pub mod Engine
+pub mod Coded
+pub mod Matching
+pub mod Followed
+pub mod Verdict

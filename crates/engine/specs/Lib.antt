@@ -1,0 +1,3 @@
+pub mod Engine
+pub mod Coded
+pub mod Followed

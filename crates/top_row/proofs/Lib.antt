@@ -1,0 +1,2 @@
+pub mod TopEngine
+pub mod TopPels

@@ -1,0 +1,50 @@
+-- The second engine is one, since with its string at the bottom it is the first; and bands written by both are the
+-- same. Assumes nothing.
+use mathlib.Core.Path.{_≡_, sym, _∙_}
+use Prim.Native.Nat.{ℕ}
+use mathlib.Core.List.{List, [], _++_}
+use lib.ListN.{drop}
+use Rattle.coder.specs.Page.{Page}
+use Rattle.engine.specs.Coded.{shiftsOf, Coded}
+use Rattle.engine.proofs.Engine.{IsEngine}
+use Rattle.engine.proofs.Verdict.{end-code, end-shifts, end-revisits, end-model}
+use Rattle.octets.specs.declared.Coder.{Coder}
+use Rattle.octets.specs.Octets.{start}
+use Rattle.octets.specs.Lift.{lift}
+use Rattle.top.specs.declared.Top.{Top}
+use Rattle.top.specs.Top.{bottomOf}
+use Rattle.row.specs.QEngine.{qEngine}
+use Rattle.row.proofs.QEngine.{qIsEngine}
+use Rattle.top_row.specs.TopRow.{topEngine}
+
+pub topIsEngine : IsEngine topEngine
+topIsEngine =
+    record {
+      puts = λ q e c d xs ys k. qIsEngine .puts q e (bottomOf c) (bottomOf d) xs ys (k .0);
+      moves = λ q e c xs. qIsEngine .moves q e (bottomOf c) xs;
+      count = λ c xs. qIsEngine .count (bottomOf c) xs;
+      twelve = λ q e c d ys k. qIsEngine .twelve q e (bottomOf c) (bottomOf d) ys (k .0);
+      counts = qIsEngine .counts;
+      ready = λ e b c d ys l r k. (qIsEngine .ready e b (bottomOf c) (bottomOf d) ys l (r .0) (k .0), k .1);
+      next = qIsEngine .next;
+      ends = λ c xs. qIsEngine .ends (bottomOf c) xs;
+      some = λ c. qIsEngine .some (bottomOf c);
+    }
+
+-- Request E8: from every table and last row, and for all pels, the second engine gives the bytes, S, the pels revisited
+-- and the table of the first.
+pub first-and-second : (width : ℕ) (m₀ : Page) (ps : List ℕ) (c₀ c : Coder) (t₀ t : Top) (m m′ : Page) (n n′ : ℕ)
+    (xs ys : List ℕ) → lift c₀ [] ≡ start → lift (bottomOf t₀) [] ≡ start
+    → Coded qEngine width m₀ c₀ 0 ps m c n xs → Coded topEngine width m₀ t₀ 0 ps m′ t n′ ys
+    → (drop 1 (ys ++ topEngine .last t) ≡ drop 1 (xs ++ qEngine .last c))
+    × (shiftsOf topEngine t ≡ shiftsOf qEngine c) × (n′ ≡ n) × (m′ ≡ m)
+first-and-second width m₀ ps c₀ c t₀ t m m′ n n′ xs ys s z f g = (
+  sym (end-code topEngine topIsEngine width m₀ t₀ ps m′ t n′ ys z g) ∙ end-code qEngine qIsEngine width m₀ c₀ ps m c n
+      xs s f,
+  sym (end-shifts topEngine topIsEngine width m₀ t₀ ps m′ t n′ ys z g) ∙ end-shifts qEngine qIsEngine width m₀ c₀ ps m
+      c n xs s f,
+  sym (end-revisits topEngine topIsEngine width m₀ t₀ ps m′ t n′ ys z g) ∙ end-revisits qEngine qIsEngine width m₀ c₀
+      ps m c n xs s f,
+  sym (end-model topEngine topIsEngine width m₀ t₀ ps m′ t n′ ys z g) ∙ end-model qEngine qIsEngine width m₀ c₀ ps m c
+      n xs s f,
+)
