@@ -12,6 +12,8 @@ pub const CALLS: &[(&str, &[&str])] = &[
     ("writing", &["write"]),
     ("reading", &["read"]),
     ("store", &["front_of"]),
+    // a band by either engine (request E8)
+    ("writer", &["write_by"]),
 ];
 
 /// The final theorems, as docs/PROMISES.md gives them: a crate, and their
@@ -25,6 +27,8 @@ pub const THEOREMS: &[(&str, &[&str])] = &[
     // how many pels are revisited (request E11)
     ("band", &["at-most-shifts", "at-most-pels"]),
     ("demands", &["revisits"]),
+    // whichever engine writes (request E8)
+    ("writer", &["either-engine"]),
     // demand 3
     ("demands", &["any-order", "as-run", "any-history"]),
     // document 01: pels; the fresh table; the table of source document 000
@@ -67,6 +71,7 @@ pub const SECTIONS: &[(&str, &[&str])] = &[
     ("Bands worked by hand", &["band/Worked"]),
     ("How much each public call must say", &[
         "parts", "desk/Asked", "counter/src", "counter", "opening", "closing", "tables", "writing", "reading", "store/src",
+        "writer/src", "writer/Wrote", "writer",
         "unique/Search", "unique/BandOfCode", "unique", "demands/Certain",
     ]),
     ("The three demands", &[

@@ -1,7 +1,7 @@
-//! Measures the library beside the plain model and, where the path of a shared
-//! library is given, beside that other build of it, all in one run, and writes
-//! the results as tables for docs/BENCHMARKS.md: whole pages, single bands, the
-//! least of calls, and the stack of each call.
+//! Measures the library beside the plain model and, where shared libraries are
+//! given as NAME=PATH, beside those other builds of it, all in one run, and
+//! writes the results as tables for docs/BENCHMARKS.md: whole pages, single
+//! bands, the least of calls, and the stack of each call.
 //!
 //! A time is the best of many repetitions, in which all take turns; a ratio is
 //! the median of the repetitions' own ratios. Each repetition starts from a
@@ -18,6 +18,7 @@ mod small;
 mod stack;
 mod times;
 
+use raw::Library;
 use sheet::Sheet;
 use side::Side;
 use sides::Sides;
@@ -125,8 +126,9 @@ fn pages() -> Vec<Sheet> {
 }
 
 fn main() {
-    let other = std::env::args().nth(1);
-    let sides = Sides::new(other.as_deref());
+    let named: Vec<String> = std::env::args().skip(1).collect();
+    let others: Vec<Library> = named.iter().map(|named| Library::load(named)).collect();
+    let sides = Sides::new(&others);
     println!(
         "ns a pel, best time and median ratio; the lent buffers are not cleared between calls."
     );
@@ -142,5 +144,5 @@ fn main() {
     println!();
     time_sheets(&sides, "band", &bands());
     small::time_calls(&sides);
-    stack::measure_calls(other.as_deref());
+    stack::measure_calls(&others);
 }

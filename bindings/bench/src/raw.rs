@@ -50,6 +50,21 @@ pub struct Calls {
     pub look: Look,
 }
 
+/// A library that is measured besides, by its name.
+pub struct Library {
+    pub name: String,
+    pub calls: Calls,
+}
+
+impl Library {
+    /// From NAME=PATH.
+    pub fn load(named: &str) -> Self {
+        let (name, path) = named.split_once('=').expect("NAME=PATH");
+        let (name, calls) = (name.into(), Calls::load(path));
+        Library { name, calls }
+    }
+}
+
 /// A desk of a library.
 #[derive(Clone)]
 pub struct Raw {

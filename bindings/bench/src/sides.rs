@@ -1,27 +1,27 @@
 //! Who is measured, and the columns of their tables.
 
-use crate::raw::{Calls, Raw};
+use crate::raw::{Library, Raw};
 use crate::side::Side;
 
 /// Who is measured: the library first.
 pub struct Sides {
-    names: Vec<&'static str>,
+    names: Vec<String>,
     desks: Vec<Box<dyn Side>>,
 }
 
 impl Sides {
-    /// Empty desks: of the library, of the model, and of the other library.
-    pub fn new(other: Option<&str>) -> Self {
+    /// Empty desks: of the library, of the model, and of the other libraries.
+    pub fn new(others: &[Library]) -> Self {
         let mut sides = Sides {
-            names: vec!["library", "model"],
+            names: vec!["library".into(), "model".into()],
             desks: vec![
                 Box::new(siftpebble::Desk::new()),
                 Box::new(siftpebble_model::Desk::default()),
             ],
         };
-        if let Some(path) = other {
-            sides.names.push("before");
-            sides.desks.push(Box::new(Raw::new(Calls::load(path))));
+        for library in others {
+            sides.names.push(library.name.clone());
+            sides.desks.push(Box::new(Raw::new(library.calls)));
         }
         sides
     }

@@ -1,7 +1,7 @@
 //! The stack that a call takes: how far down the bytes of a painted stack
 //! change while it runs.
 
-use crate::raw::{Calls, Raw, Reply};
+use crate::raw::{Calls, Library, Raw, Reply};
 use crate::side::Side;
 use crate::small::{fill, LEARNED};
 use crate::times::short;
@@ -228,7 +228,10 @@ impl Row {
         let nothing = self.depth(idle(), band);
         let mut taken = |&calls| self.depth(calls, band) - nothing;
         let taken: Vec<usize> = libraries.iter().map(&mut taken).collect();
-        let ratio = |bytes: &usize| short(taken[0] as f64 / *bytes as f64);
+        let ratio = |&bytes: &usize| match (taken[0], bytes) {
+            (0, 0) => "1".into(),
+            (mine, theirs) => short(mine as f64 / theirs as f64),
+        };
         let others = taken[1..].iter();
         let others = others.map(|bytes| format!(" {bytes} | {} |", ratio(bytes)));
         format!(" {} |{}", taken[0], others.collect::<String>())
@@ -236,16 +239,15 @@ impl Row {
 }
 
 /// A table with a line for each call: bytes of stack.
-pub fn measure_calls(other: Option<&str>) {
-    let loaded = other.map(Calls::load);
+pub fn measure_calls(others: &[Library]) {
+    let loaded = others.iter().map(|library| library.calls);
     let libraries: Vec<Calls> = [Calls::linked()].into_iter().chain(loaded).collect();
+    let names = others.iter().map(|library| &library.name);
+    let names: String = names.map(|name| format!(" {name} | ratio |")).collect();
     println!("Bytes of stack that a call takes on a full desk:");
     println!();
-    println!(
-        "| call | library |{}",
-        " before | ratio |".repeat(libraries.len() - 1)
-    );
-    println!("|---|---|{}", "---|---|".repeat(libraries.len() - 1));
+    println!("| call | library |{names}");
+    println!("|---|---|{}", "---|---|".repeat(others.len()));
     let mut bands = [Band::new(WIDTH, MAX_ROWS), Band::new(1, 1)];
     for row in &BANDS {
         for band in &mut bands {

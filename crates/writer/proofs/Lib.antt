@@ -1,2 +1,3 @@
+pub mod EitherEngine
 pub mod LastRow
 pub mod RowByRow

@@ -10,8 +10,8 @@ ghost use Rattle.octets.specs.Fit.{Ready};
 ghost use Rattle.octets.specs.Lift.{lift};
 ghost use Rattle.template.specs.Pels.{pelsTo, rowAt, rowBytes};
 ghost use Rattle.limits.specs.Limits.{maxWidth, maxRows, maxCode, farthest, maxShifts};
-ghost use Rattle.band.specs.Band.{written, lastRow};
-ghost use Rattle.writer.specs.Wrote.{wroteAnswer, wroteOut};
+ghost use Rattle.band.specs.Band.{lastRow};
+ghost use Rattle.writer.specs.Wrote.{BandWrote};
 ghost use Rattle.row.specs.WrittenRow.{RowDone};
 ghost use Rattle.writer.specs.RowByRow.{BandAt};
 use estimate::Table;
@@ -30,8 +30,29 @@ pub struct Wrote {
     pub last: [u8; ROW],
 }
 
+// The desk writes with the second engine, whose code string points at the top of the interval while a row is coded. The
+// first writes the same, a little slower (docs/DECISIONS.md).
+const TOP: bool = true;
+
+// The first row of a band, under the page's last row, by the second engine or the first. This function and `write_next`
+// each ask which it is: asked in one place for both, the loop over the pels would take a copy of its start more.
+fn write_first(row: &[u8], above: &[u8], width: usize, run: Run, out: &mut [u8], top: bool) -> Run
+    requires { ⌜ (width ≤ maxWidth) × (width ≤ 8 * length (now row)) × (width ≤ 8 * length (now above)) × (1 ≤ width)
+        × LawfulTable (run .table .entries) × Ready (lift (run .coder) [])
+        × (run .coder .interval .count + 12 * maxWidth ≤ maxShifts) × (run .at + 2 * maxWidth ≤ farthest)
+        × (run .revisits ≤ run .coder .interval .count) ⌝ }
+    ensures { λ r. ⌜ RowDone width (pelsTo (now (above .entry)) width) (now (row .entry)) (run .table .entries)
+        (run .coder) (now (out .entry)) (run .at) (run .revisits) (r .table .entries) (r .coder) (now (out .exit))
+        (r .at) (r .revisits) ⌝ }
+{
+    if top {
+        return top_row::write_row(row, above, width, run, out);
+    }
+    row::write_row(row, above, width, run, out)
+}
+
 // The row y of a band, under the row before it.
-pub fn write_next(pels: &[u8], y: usize, width: usize, run: Run, out: &mut [u8]) -> Run
+pub fn write_next(pels: &[u8], y: usize, width: usize, run: Run, out: &mut [u8], top: bool) -> Run
     requires { ⌜ (1 ≤ width) × (width ≤ maxWidth) × (1 ≤ y) × (y < maxRows)
         × (y * rowBytes width + rowBytes width ≤ length (now pels))
         × LawfulTable (run .table .entries) × Ready (lift (run .coder) [])
@@ -45,6 +66,9 @@ pub fn write_next(pels: &[u8], y: usize, width: usize, run: Run, out: &mut [u8])
     let from = y * bytes;
     let row = &pels[from..from + bytes];
     let above = &pels[from - bytes..from];
+    if top {
+        return top_row::write_row(row, above, width, run, out);
+    }
     row::write_row(row, above, width, run, out)
 }
 
@@ -56,6 +80,7 @@ pub fn write_rows(
     rows: usize,
     table: Table,
     out: &mut [u8],
+    top: bool,
 ) -> Run
     requires { ⌜ (1 ≤ width) × (width ≤ maxWidth) × (1 ≤ rows) × (rows ≤ maxRows)
         × (length (now pels) ≡ rows * rowBytes width)
@@ -72,10 +97,10 @@ pub fn write_rows(
         at: 0,
         revisits: 0,
     };
-    let mut run = row::write_row(&pels[..bytes], &last, width, begun, out);
+    let mut run = write_first(&pels[..bytes], &last, width, begun, out, top);
     let mut y: usize = 1;
     while y < rows {
-        run = write_next(pels, y, width, run, out);
+        run = write_next(pels, y, width, run, out, top);
         y += 1;
     }
     run
@@ -105,24 +130,23 @@ pub fn has_room(n: usize, len: usize) -> bool
     if n <= len { n <= MAX_CODE } else { false }
 }
 
-// A band into a lent buffer: its code in front and the rest kept, or all zero where there is no room.
-pub fn write_band(
+// A band into a lent buffer, by the second engine or the first: its code in front and the rest kept, or all zero where
+// there is no room.
+pub fn write_by(
     table: Table,
     last: [u8; ROW],
     width: usize,
     rows: usize,
     pels: &[u8],
     out: &mut [u8],
+    top: bool,
 ) -> Wrote
     requires { ⌜ (1 ≤ width) × (width ≤ maxWidth) × (1 ≤ rows) × (rows ≤ maxRows)
         × (length (now pels) ≡ rows * rowBytes width)
         × LawfulTable (table .entries) ⌝ }
-    ensures { λ r. ⌜ (r ≡ wroteAnswer (written width rows (table .entries) last (now (pels .entry))) table last
-        (now (out .entry)))
-        × (now (out .exit) ≡ wroteOut (written width rows (table .entries) last (now (pels .entry)))
-        (now (out .entry))) ⌝ }
+    ensures { λ r. ⌜ BandWrote width rows table last (now (pels .entry)) (now (out .entry)) r (now (out .exit)) ⌝ }
 {
-    let run = write_rows(pels, last, width, rows, table, out);
+    let run = write_rows(pels, last, width, rows, table, out, top);
     let coder = run.coder;
     let shifts = coder.interval.count;
     let end = coder.finish();
@@ -149,4 +173,21 @@ pub fn write_band(
         table: table,
         last: last,
     }
+}
+
+// The same by the desk's engine.
+pub fn write_band(
+    table: Table,
+    last: [u8; ROW],
+    width: usize,
+    rows: usize,
+    pels: &[u8],
+    out: &mut [u8],
+) -> Wrote
+    requires { ⌜ (1 ≤ width) × (width ≤ maxWidth) × (1 ≤ rows) × (rows ≤ maxRows)
+        × (length (now pels) ≡ rows * rowBytes width)
+        × LawfulTable (table .entries) ⌝ }
+    ensures { λ r. ⌜ BandWrote width rows table last (now (pels .entry)) (now (out .entry)) r (now (out .exit)) ⌝ }
+{
+    write_by(table, last, width, rows, pels, out, TOP)
 }

@@ -17,11 +17,11 @@ use Rattle.writer.proofs.write_rows.Statement.{statement}
 use Rattle.writer.proofs.write_rows.Tie as tie
 
 abbrev Inv-loop : tie.InvT-loop
-Inv-loop pels width rows out₀ bytes run₀ y₀ out run y =
+Inv-loop pels width rows out₀ top bytes run₀ y₀ out run y =
     (1 ≤ y) × (y ≤ rows) × (length out ≡ length out₀) × RowsKeep width pels run₀ out₀ run out y
 
 abbrev μ-loop : tie.MeasureT-loop
-μ-loop pels width rows out₀ bytes run₀ y₀ out run y = rows - y
+μ-loop pels width rows out₀ top bytes run₀ y₀ out run y = rows - y
 
 -- ---- the stations of the rows: each is a place passed on the way, seen from a later one
 -- the band begins, seen from where a row's bytes are counted
@@ -29,11 +29,11 @@ abbrev begin : tie.After-row-bytes Inv-loop μ-loop → tie.Start Inv-loop μ-lo
 begin c = c .before .before .before
 
 -- a row's bytes are counted, seen from where the first row is written
-abbrev sized : tie.After-write-row Inv-loop μ-loop → tie.After-row-bytes Inv-loop μ-loop
+abbrev sized : tie.After-write-first Inv-loop μ-loop → tie.After-row-bytes Inv-loop μ-loop
 sized c = c .before .before .before .before .before
 
 -- the first row is written, seen from the loop
-abbrev first : tie.At-loop Inv-loop μ-loop → tie.After-write-row Inv-loop μ-loop
+abbrev first : tie.At-loop Inv-loop μ-loop → tie.After-write-first Inv-loop μ-loop
 first c = c .before .before .before
 
 -- the turn begins, seen from where its row is written
@@ -54,7 +54,7 @@ whole c =
     omega (arith, c .row-bytes .ensures, z .0)
 
 -- the first row
-begun : (c : tie.After-write-row Inv-loop μ-loop) → let a = begin (sized c) .args in let w = c .write-row in
+begun : (c : tie.After-write-first Inv-loop μ-loop) → let a = begin (sized c) .args in let w = c .write-first in
     BandAt (a .width) (a .t2) (a .pels .now) (a .table .entries) (a .out .now) (rowAt (a .width) (a .pels .now) 0)
     (w .result .table .entries) (w .result .coder) (w .last .1 .1 .1 .1 .0) (w .result .at) (w .result .revisits) 1
 begun c =
@@ -64,7 +64,7 @@ begun c =
     let m = s .row-bytes in
     let k = c .before .before .before .before .start in
     band-first (a .width) (a .t2) (a .pels .now) (a .table .entries) (a .out .now) (m .result) (k .result) _ _ _ _ _
-    (m .ensures) (k .ensures) (q .5) (c .write-row .ensures)
+    (m .ensures) (k .ensures) (q .5) (c .write-first .ensures)
 
 -- the rows so far
 kept : (c : tie.At-loop Inv-loop μ-loop) → let a = begin₁ c .args in let l = c .loop in
@@ -80,14 +80,14 @@ row-bytes-requires c κs = omega arith
 start-requires : tie.Need-start-requires Inv-loop μ-loop
 start-requires c κs = tt
 
-slice-aggregate-write-row : tie.Need-slice-aggregate-write-row Inv-loop μ-loop
-slice-aggregate-write-row c = sym (length-take-le _ _ (whole (c .before .before)))
+slice-aggregate-write-first : tie.Need-slice-aggregate-write-first Inv-loop μ-loop
+slice-aggregate-write-first c = sym (length-take-le _ _ (whole (c .before .before)))
 
-slice-aggregate-write-row-2 : tie.Need-slice-aggregate-write-row-2 Inv-loop μ-loop
-slice-aggregate-write-row-2 c = search needs
+slice-aggregate-write-first-2 : tie.Need-slice-aggregate-write-first-2 Inv-loop μ-loop
+slice-aggregate-write-first-2 c = search needs
 
-write-row-requires : tie.Need-write-row-requires Inv-loop μ-loop
-write-row-requires c κs =
+write-first-requires : tie.Need-write-first-requires Inv-loop μ-loop
+write-first-requires c κs =
     let s = c .before .before .before .before in
     let a = begin s .args in
     let q = begin s .pre in
@@ -165,9 +165,9 @@ write-rows-spec =
     μ-loop
     row-bytes-requires
     start-requires
-    slice-aggregate-write-row
-    slice-aggregate-write-row-2
-    write-row-requires
+    slice-aggregate-write-first
+    slice-aggregate-write-first-2
+    write-first-requires
     loop-holds
     write-next-requires
     add-y
