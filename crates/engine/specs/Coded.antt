@@ -31,6 +31,7 @@ module _ (E : Engine) where
   abbrev pub shiftedBy : E .Registers → ℕ → Bool → Bool
   shiftedBy c e b = E .writer .moves (E .scheme .size e) b (E .stands c [])
 
+  -- a lawful table: every entry is lawful
   abbrev pub LawfulTable : List ℕ → Type 0
   LawfulTable t = (cx : ℕ) → E .Lawful (getD t cx 0)
 
@@ -48,6 +49,7 @@ module _ (E : Engine) where
     abbrev pub pages : Model
     pages = page (E .scheme) width
 
+    -- where a band stands: the page, the writer, the pels revisited
     abbrev pub stageOf : Page → E .writer .State → ℕ → Stage pages (E .writer)
     stageOf m w n = record { model = m; writer = w; revisits = n }
 
@@ -55,6 +57,7 @@ module _ (E : Engine) where
     abbrev pub pageOf : List ℕ → List ℕ → List ℕ → Page
     pageOf table above this = placed (E .scheme) width table above this
 
+    -- where it stands after these pels
     abbrev pub through : Stage pages (E .writer) → List ℕ → Stage pages (E .writer)
     through s ps = after pages (E .writer) s ps
 

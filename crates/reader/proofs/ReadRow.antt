@@ -52,6 +52,7 @@ read-told c v code e t k =
 
 module _ (E : Engine) (K : IsEngine E) (seven : Seven E) (R : Reader) (width : ℕ) (above t₀ : List ℕ)
     (c₀ : E .Registers) (code : List ℕ) (at₀ n₀ : ℕ) (good₀ : Bool) (r₀ : R .State) where
+  -- x pels of the row are read
   pub record RowRead (row t : List ℕ) (c : E .Registers) (w : Window) (r : R .State) (at n : ℕ) (good : Bool)
       (x : ℕ) : Type 0 where
     pub done : Followed E R width code (pageOf E width t₀ above []) c₀ n₀ at₀ good₀ r₀ (pelsTo row x)

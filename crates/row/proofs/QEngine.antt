@@ -1,10 +1,9 @@
 -- The first engine is one: nothing looks at the bytes that were settled, and what is kept is kept. Assumes nothing.
 use mathlib.Core.Path.{_≡_, refl, sym, ap, _∙_, subst}
-use Prim.Native.Nat.{_≤_, _+_}
+use Prim.Native.Nat.{ℕ, _+_, _≤_}
 use native.Mathlib.Omega.{arith}
 use mathlib.Core.List.{List, [], _∷_, _++_, append-nil}
 use lib.ListN.{length, drop, length-append}
-use Prim.Native.Nat.{ℕ}
 use Rattle.engine.proofs.Engine.{IsEngine}
 use Rattle.estimate.proofs.LawfulEntries.{row-sized, next-lawful}
 use Rattle.interval.specs.Interval.{decision}

@@ -70,6 +70,7 @@ qSeven above this x = refl
 
 module _ (E : Engine) (K : IsEngine E) (seven : Seven E) (width : ℕ) (above row t₀ : List ℕ) (c₀ : E .Registers)
     (out₀ : List ℕ) (at₀ n₀ : ℕ) where
+  -- x pels of the row are written
   pub record RowAt (t : List ℕ) (c : E .Registers) (w : Window) (out : List ℕ) (at n x : ℕ) : Type 0 where
     pub done : Stored E width (pageOf E width t₀ above []) c₀ n₀ out₀ at₀ (pelsTo row x)
         (pageOf E width t above (pelsTo row x)) c n out at
@@ -132,6 +133,7 @@ module _ (E : Engine) (K : IsEngine E) (seven : Seven E) (width : ℕ) (above ro
           passed = h;
         }
 
+    -- the whole row
     pub row-done : 1 ≤ width → x ≡ width → Stored E width (rowPage t₀ above) c₀ n₀ out₀ at₀ (pelsTo row width)
         (rowPage t (pelsTo row width)) c n out at
     row-done h e =

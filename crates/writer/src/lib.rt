@@ -34,8 +34,8 @@ pub struct Wrote {
 // first writes the same, a little slower (docs/DECISIONS.md).
 const TOP: bool = true;
 
-// The first row of a band, under the page's last row, by the second engine or the first. This function and `write_next`
-// each ask which it is: asked in one place for both, the loop over the pels would take a copy of its start more.
+// The first row of a band, under the page's last row, by the second engine or the first. Both this and `write_next` ask
+// which it is: were it asked in one function for both, each row would copy its start, table and all, once more.
 fn write_first(row: &[u8], above: &[u8], width: usize, run: Run, out: &mut [u8], top: bool) -> Run
     requires { ⌜ (width ≤ maxWidth) × (width ≤ 8 * length (now row)) × (width ≤ 8 * length (now above)) × (1 ≤ width)
         × LawfulTable (run .table .entries) × Ready (lift (run .coder) [])
