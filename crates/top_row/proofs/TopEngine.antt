@@ -1,6 +1,6 @@
 -- The second engine is one, since with its string at the bottom it is the first; and bands written by both are the
 -- same. Assumes nothing.
-use mathlib.Core.Path.{_≡_, sym, _∙_}
+use mathlib.Core.Path.{_≡_, sym, _∙_, subst₂}
 use Prim.Native.Nat.{ℕ}
 use mathlib.Core.List.{List, [], _++_}
 use lib.ListN.{drop}
@@ -12,7 +12,8 @@ use Rattle.octets.specs.declared.Coder.{Coder}
 use Rattle.octets.specs.Octets.{start}
 use Rattle.octets.specs.Lift.{lift}
 use Rattle.top.specs.declared.Top.{Top}
-use Rattle.top.specs.Top.{bottomOf}
+use Rattle.top.specs.Top.{bottomOf, aboveOf}
+use Rattle.top.proofs.Moved.{above-bottom, above-holds}
 use Rattle.row.specs.QEngine.{qEngine}
 use Rattle.row.proofs.QEngine.{qIsEngine}
 use Rattle.top_row.specs.TopRow.{topEngine}
@@ -29,6 +30,21 @@ topIsEngine =
       next = qIsEngine .next;
       ends = λ c xs. qIsEngine .ends (bottomOf c) xs;
       some = λ c. qIsEngine .some (bottomOf c);
+    }
+
+-- whatever the first engine codes, the second does, from the string moved up to the string moved up
+pub second-too : (width : ℕ) (m₀ m : Page) (c₀ c : Coder) (n₀ n : ℕ) (ps xs : List ℕ)
+    → Coded qEngine width m₀ c₀ n₀ ps m c n xs → Coded topEngine width m₀ (aboveOf c₀) n₀ ps m (aboveOf c) n xs
+second-too width m₀ m c₀ c n₀ n ps xs f =
+    let g : Coded qEngine width m₀ (bottomOf (aboveOf c₀)) n₀ ps m (bottomOf (aboveOf c)) n xs
+    = subst₂ (λ (a b : Coder). Coded qEngine width m₀ a n₀ ps m b n xs) (sym (above-bottom c₀)) (sym (above-bottom c))
+    f in
+    record {
+      stage = g .stage;
+      few = g .few;
+      lawful = g .lawful;
+      ready = (g .ready, above-holds c);
+      count = g .count;
     }
 
 -- Request E8: from every table and last row, and for all pels, the second engine gives the bytes, S, the pels revisited
