@@ -1,17 +1,20 @@
-//! Measures the library beside the plain model and, where shared libraries are
-//! given as NAME=PATH, beside those other builds of it, all in one run, and
-//! writes the results as tables for docs/BENCHMARKS.md: whole pages, single
-//! bands, the least of calls, and the stack of each call.
+//! Measures the library beside the same rules in ordinary Rust, plain and fast,
+//! and, where shared libraries are given as NAME=PATH, beside those other
+//! builds of it, all in one run, and writes the results as tables for
+//! docs/BENCHMARKS.md: whole pages, some of them with the lent buffer cleared
+//! before each call, single bands, the least of calls, and the stack of each
+//! call.
 //!
-//! A time is the best of many repetitions, in which all take turns; a ratio is
-//! the median of the repetitions' own ratios. Each repetition starts from a
-//! copy of the same desk, made before the clock starts. The lent buffers are
-//! the same ones throughout: nobody clears them, since an accepted call writes
-//! only their front.
+//! All take turns at every band. A time is made of the best times of its bands
+//! over many repetitions; a ratio is the median of the repetitions' own ratios,
+//! with their tenth and ninetieth percentile. Each repetition starts from
+//! copies of the same desks, made before the clock starts. The lent buffers are
+//! the same ones throughout.
 
 mod page;
 mod raw;
 mod sheet;
+mod sheets;
 mod side;
 mod sides;
 mod small;
@@ -20,12 +23,11 @@ mod times;
 
 use raw::Library;
 use sheet::Sheet;
-use side::Side;
+use sheets::{time_cleared, time_sheets};
 use sides::Sides;
 use siftpebble::{MAX_CODE, MAX_ROWS as ROWS, MAX_WIDTH as WIDTH};
 use siftpebble_model::random::Random;
-use siftpebble_model::{sample, Direction};
-use times::{measure, Times};
+use siftpebble_model::sample;
 
 const NARROW: usize = 48;
 const CLASS: u64 = 5;
@@ -33,75 +35,16 @@ const CLASS: u64 = 5;
 const REPETITIONS: usize = 300;
 const PAGE_REPETITIONS: usize = 25;
 
-/// The same desks with a page of that width open.
-fn opened(sides: &Sides, direction: Direction, width: usize) -> Vec<Box<dyn Side>> {
-    let mut desks = sides.copy();
-    for desk in &mut desks {
-        desk.open(CLASS, direction, width as u64);
-    }
-    desks
-}
+/// Pages on which clearing may show, being quick, and one on which it cannot.
+const CLEARED: [&str; 4] = ["white", "ruled", "worksheet", "random 50 %"];
 
-/// The codes of a sheet's bands, which all sides must give.
-fn codes_of(sides: &Sides, sheet: &Sheet) -> Vec<Vec<u8>> {
-    let desks = opened(sides, Direction::Write, sheet.width);
-    let mut codes = desks.into_iter().map(|mut desk| {
-        let write = |(rows, pels): (u64, &[u8])| {
-            let mut code = vec![0; MAX_CODE];
-            let length = desk.write(CLASS, rows, pels, &mut code);
-            code.truncate(length);
-            code
-        };
-        sheet.bands().map(write).collect::<Vec<_>>()
-    });
-    let first = codes.next().expect("the library");
-    assert!(codes.all(|code| code == first), "the codes differ");
-    first
-}
-
-/// Writes a sheet again and again.
-fn time_write(sides: &Sides, sheet: &Sheet) -> Times {
-    let mut code = vec![0; MAX_CODE];
-    let desks = opened(sides, Direction::Write, sheet.width);
-    measure(&desks, sheet.repetitions, |desk| {
-        for (rows, pels) in sheet.bands() {
-            desk.write(CLASS, rows, pels, &mut code);
-        }
-    })
-}
-
-/// Reads a sheet again and again.
-fn time_read(sides: &Sides, codes: &[Vec<u8>], sheet: &Sheet) -> Times {
-    let mut out = vec![0; sheet.band_bytes()];
-    let desks = opened(sides, Direction::Read, sheet.width);
-    for mut desk in desks.iter().map(|desk| desk.copy()) {
-        for ((rows, pels), code) in sheet.bands().zip(codes) {
-            out.fill(0xA5);
-            desk.read(CLASS, rows, code, &mut out);
-            assert_eq!(&out[..pels.len()], pels, "the rows differ");
-        }
-    }
-    measure(&desks, sheet.repetitions, |desk| {
-        for ((rows, _), code) in sheet.bands().zip(codes) {
-            desk.read(CLASS, rows, code, &mut out);
-        }
-    })
-}
-
-/// A table with a line for each sheet: nanoseconds a pel.
-fn time_sheets(sides: &Sides, what: &str, sheets: &[Sheet]) {
-    let (write, read) = (sides.head("write: "), sides.head("read: "));
-    println!("| {what} | code bytes |{write}{read}");
-    println!("|---|---|{0}{0}", sides.rule());
-    for sheet in sheets {
-        let codes = codes_of(sides, sheet);
-        let write = time_write(sides, sheet).cells(sheet.pels());
-        let read = time_read(sides, &codes, sheet).cells(sheet.pels());
-        let bytes: usize = codes.iter().map(Vec::len).sum();
-        println!("| {} | {bytes} |{write}{read}", sheet.name);
-    }
-    println!();
-}
+const HEAD: &str = "\
+The sides: `library` is proved; `plain` is the rules in ordinary Rust; `fast` is ordinary Rust whose
+writes and reads have every trick, and whose other calls are plain's. All must give the same codes
+and rows, and they take turns at every band. A time is that of each band's best repetition, added up.
+A ratio is the library's time divided by the other side's in the same repetition: the median of the
+repetitions, and in brackets their tenth and ninetieth percentile.
+";
 
 /// Single bands of the greatest size, and too narrow for runs.
 fn bands() -> Vec<Sheet> {
@@ -125,24 +68,37 @@ fn pages() -> Vec<Sheet> {
     page::all().into_iter().map(sheet).collect()
 }
 
+/// Whole pages, in the buffers as they are, and some in cleared ones.
+fn time_pages(sides: &Sides) {
+    let pages = pages();
+    let (width, height) = (page::WIDTH, page::HEIGHT);
+    println!("ns a pel, pages of {width} x {height} in bands of {ROWS} rows, {PAGE_REPETITIONS} repetitions; the lent");
+    println!("buffers are not cleared:");
+    println!();
+    time_sheets(sides, "page", &pages);
+    let band = pages[0].band_bytes();
+    println!("The same, and with all of the lent buffer cleared before each call, inside the time: {MAX_CODE}");
+    println!("bytes for a write, {band} for a read. The ratio is the time so divided by the time without:");
+    println!();
+    let chosen = pages.iter().filter(|page| CLEARED.contains(&page.name));
+    time_cleared(sides, chosen);
+}
+
+/// Single bands, in the buffers as they are.
+fn time_bands(sides: &Sides) {
+    println!("ns a pel, bands of {WIDTH} x {ROWS} ({NARROW} x {ROWS} where narrow) from a new page, {REPETITIONS}");
+    println!("repetitions; the lent buffers are not cleared:");
+    println!();
+    time_sheets(sides, "band", &bands());
+}
+
 fn main() {
     let named: Vec<String> = std::env::args().skip(1).collect();
     let others: Vec<Library> = named.iter().map(|named| Library::load(named)).collect();
     let sides = Sides::new(&others);
-    println!(
-        "ns a pel, best time and median ratio; the lent buffers are not cleared between calls."
-    );
-    println!();
-    println!(
-        "Pages of {} x {} in bands of {ROWS} rows, {PAGE_REPETITIONS} repetitions:",
-        page::WIDTH,
-        page::HEIGHT
-    );
-    println!();
-    time_sheets(&sides, "page", &pages());
-    println!("Bands of {WIDTH} x {ROWS} ({NARROW} x {ROWS} where narrow) from a new page, {REPETITIONS} repetitions:");
-    println!();
-    time_sheets(&sides, "band", &bands());
+    println!("{HEAD}");
+    time_pages(&sides);
+    time_bands(&sides);
     small::time_calls(&sides);
     stack::measure_calls(&others);
 }

@@ -19,7 +19,7 @@ pub fn all() -> Vec<(&'static str, Vec<u8>)> {
         ("text", page(text)),
         ("form", page(form)),
         ("noisy scan", scanned(&mut Random::new(2))),
-        ("halftone, ordered", page(ordered)),
+        ("halftone, clustered", page(clustered)),
         ("halftone, diffused", diffused()),
         ("random 1 %", noise(1)),
         ("random 10 %", noise(10)),
@@ -141,8 +141,9 @@ fn grey(x: usize, y: usize) -> f64 {
     127.0 + 60.0 * (x - y) + 60.0 * waves
 }
 
-/// That photograph in dots that grow, six by six.
-fn ordered(x: usize, y: usize) -> bool {
+/// That photograph in clustered dots: one in each six by six pels, the darker
+/// the larger.
+fn clustered(x: usize, y: usize) -> bool {
     let from_middle = |at: usize| (2 * (at % 6)).abs_diff(5);
     let far = from_middle(x).pow(2) + from_middle(y).pow(2);
     (far as f64) < (255.0 - grey(x, y)) / 255.0 * 50.0

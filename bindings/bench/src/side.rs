@@ -1,5 +1,5 @@
-//! What is measured: a desk of the library, of the model, or of another
-//! library, behind the same calls.
+//! What is measured: a desk of the library, of ordinary Rust, plain or fast, or
+//! of another library, behind the same calls.
 
 use siftpebble_model::Direction;
 
@@ -95,6 +95,39 @@ impl Side for siftpebble_model::Desk {
 
     fn read(&mut self, class: u64, rows: u64, code: &[u8], out: &mut [u8]) {
         let band = siftpebble_model::Desk::read(self, model_key(class), rows, code, out);
+        band.expect("a good code");
+    }
+}
+
+/// The plain desk, but for its bands.
+impl Side for siftpebble_fast::Desk {
+    fn copy(&self) -> Box<dyn Side> {
+        Box::new(self.clone())
+    }
+
+    fn open(&mut self, class: u64, direction: Direction, width: u64) {
+        Side::open(&mut self.0, class, direction, width);
+    }
+
+    fn close(&mut self, class: u64) {
+        Side::close(&mut self.0, class);
+    }
+
+    fn refused_close(&mut self, class: u64) {
+        Side::refused_close(&mut self.0, class);
+    }
+
+    fn look(&mut self, class: u64, out: &mut [u8]) {
+        Side::look(&mut self.0, class, out);
+    }
+
+    fn write(&mut self, class: u64, rows: u64, pels: &[u8], out: &mut [u8]) -> usize {
+        let band = siftpebble_fast::Desk::write(self, model_key(class), rows, pels, out);
+        band.expect("room").length
+    }
+
+    fn read(&mut self, class: u64, rows: u64, code: &[u8], out: &mut [u8]) {
+        let band = siftpebble_fast::Desk::read(self, model_key(class), rows, code, out);
         band.expect("a good code");
     }
 }

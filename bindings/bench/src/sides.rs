@@ -10,13 +10,15 @@ pub struct Sides {
 }
 
 impl Sides {
-    /// Empty desks: of the library, of the model, and of the other libraries.
+    /// Empty desks: of the library, of ordinary Rust, plain and fast, and of the
+    /// other libraries.
     pub fn new(others: &[Library]) -> Self {
         let mut sides = Sides {
-            names: vec!["library".into(), "model".into()],
+            names: vec!["library".into(), "plain".into(), "fast".into()],
             desks: vec![
                 Box::new(siftpebble::Desk::new()),
                 Box::new(siftpebble_model::Desk::default()),
+                Box::new(siftpebble_fast::Desk::default()),
             ],
         };
         for library in others {
@@ -40,5 +42,21 @@ impl Sides {
     /// Their rule.
     pub fn rule(&self) -> String {
         "---|".repeat(2 * self.names.len() - 1)
+    }
+
+    /// The columns of sides in two ways, the second of this name.
+    pub fn head_of_pairs(&self, way: &str) -> String {
+        let names = self.names.iter();
+        let pair = |name| format!(" {name} | {way} | ratio |");
+        names.map(pair).collect()
+    }
+
+    /// Their rule.
+    pub fn rule_of_pairs(&self) -> String {
+        "---|".repeat(3 * self.names.len())
+    }
+
+    pub fn count(&self) -> usize {
+        self.names.len()
     }
 }

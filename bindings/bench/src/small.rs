@@ -48,7 +48,8 @@ fn codes(sides: &Sides) -> Vec<[u8; 2]> {
 
 /// The same call so many times on a full desk.
 fn time(sides: &Sides, mut call: impl FnMut(&mut dyn Side)) -> Times {
-    measure(&full_desks(sides, Direction::Write), REPETITIONS, |desk| {
+    let desks = full_desks(sides, Direction::Write);
+    measure(&desks, REPETITIONS, 1, |desk, _, _| {
         for _ in 0..CALLS {
             call(desk);
         }
@@ -59,7 +60,8 @@ fn time(sides: &Sides, mut call: impl FnMut(&mut dyn Side)) -> Times {
 fn time_reads(sides: &Sides) -> Times {
     let codes = codes(sides);
     let mut out = [0; 16];
-    measure(&full_desks(sides, Direction::Read), REPETITIONS, |desk| {
+    let desks = full_desks(sides, Direction::Read);
+    measure(&desks, REPETITIONS, 1, |desk, _, _| {
         for code in &codes {
             desk.read(CLASS, 1, code, &mut out);
         }
@@ -68,8 +70,8 @@ fn time_reads(sides: &Sides) -> Times {
 
 /// A table with a line for each call: nanoseconds a call.
 pub fn time_calls(sides: &Sides) {
-    println!("ns a call on a full desk ({PAGES} pages, {PLACES} places), best of {REPETITIONS}");
-    println!("times {CALLS} calls; a band is 1 x 1:");
+    println!("ns a call on a full desk ({PAGES} pages, {PLACES} places), {REPETITIONS} repetitions of {CALLS} calls;");
+    println!("a band is 1 x 1, and the lent buffers are not cleared:");
     println!();
     println!("| call |{}", sides.head(""));
     println!("|---|{}", sides.rule());

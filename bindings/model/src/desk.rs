@@ -197,6 +197,20 @@ impl Desk {
         out: &mut [u8],
         watch: impl Watch,
     ) -> Answer<Band> {
+        self.write_by(key, rows, pels, out, |state, width, pels, out| {
+            band::write(state, width, pels, out, watch)
+        })
+    }
+
+    /// A write whose band is coded by `code`, as [`band::write`] does it.
+    pub fn write_by(
+        &mut self,
+        key: Key,
+        rows: u64,
+        pels: &[u8],
+        out: &mut [u8],
+        code: impl FnOnce(&mut State, usize, &[u8], &mut [u8]) -> Answer<Band>,
+    ) -> Answer<Band> {
         self.admit(key)?;
         require_rows(rows)?;
         let page = self.page_mut(key, Direction::Write)?;
@@ -205,11 +219,23 @@ impl Desk {
         require(pels.len() == rows as usize * bytes, Refusal::Size)?;
         let clean = pels.chunks_exact(bytes).all(|row| band::clean(row, width));
         require(clean, Refusal::Padding)?;
-        let answer = band::write(&mut page.state, width, pels, out, watch);
+        let answer = code(&mut page.state, width, pels, out);
         clear_if_refused(answer, out)
     }
 
     pub fn read(&mut self, key: Key, rows: u64, code: &[u8], out: &mut [u8]) -> Answer<Band> {
+        self.read_by(key, rows, code, out, band::read)
+    }
+
+    /// A read whose band is decoded by `decode`, as [`band::read`] does it.
+    pub fn read_by(
+        &mut self,
+        key: Key,
+        rows: u64,
+        code: &[u8],
+        out: &mut [u8],
+        decode: impl FnOnce(&mut State, usize, &[u8], &mut [u8]) -> Answer<Band>,
+    ) -> Answer<Band> {
         self.admit(key)?;
         require_rows(rows)?;
         require(code.len() <= band::MAX_CODE, Refusal::Size)?;
@@ -219,7 +245,7 @@ impl Desk {
         let answer = match out.get_mut(..length) {
             None => Err(Refusal::NoRoom),
             Some(_) if band::has_marker(code) => Err(Refusal::Marker),
-            Some(front) => band::read(&mut page.state, width, code, front),
+            Some(front) => decode(&mut page.state, width, code, front),
         };
         clear_if_refused(answer, out)
     }

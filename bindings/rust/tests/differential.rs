@@ -1,6 +1,6 @@
 //! The library against the model, call by call: every number of every answer,
 //! every byte of every lent buffer, and the whole desk. In the runs of calls
-//! the safe desk comes along.
+//! the safe desk comes along, and wherever a band is asked for the fast coder.
 //!
 //! The seeds are fixed. `SIFTPEBBLE_TIMES=n` tries n times as much, and
 //! `SIFTPEBBLE_SEED=n` something else.
@@ -10,6 +10,7 @@ mod common;
 use common::layout::{desk_image, desk_of, Image};
 use common::library::{Library, Safe};
 use common::setting;
+use siftpebble_fast as fast;
 use siftpebble_model::band::{self, row_bytes, State, MAX_CODE, MAX_ROWS, MAX_WIDTH};
 use siftpebble_model::call::{Act, Answer, Call, Outcome, Serve};
 use siftpebble_model::coder::Watch;
@@ -210,11 +211,23 @@ fn expected_write(
     Outcome { answer, lent }
 }
 
+/// A band by the fast coder: as the model has it, to the desk after it.
+fn compare_fast(before: Desk, after: &Desk, call: &Call, expected: &Outcome) {
+    let mut fast = fast::Desk(before);
+    assert_eq!(&fast.serve(call), expected, "the fast coder: {call:?}");
+    assert_eq!(&fast.0, after, "the fast coder's desk after {call:?}");
+}
+
 /// One call on both: they answer alike, and leave the same lent bytes and the
 /// same desk. Answers the outcome.
 fn compare(desk: &mut Desk, library: &mut Library, call: &Call, report: &mut Report) -> Outcome {
+    let is_band = matches!(call.act, Act::Write { .. } | Act::Read { .. });
+    let before = is_band.then(|| desk.clone());
     let expected = expected(desk, call, report);
     report.count(call, expected.answer);
+    if let Some(before) = before {
+        compare_fast(before, desk, call, &expected);
+    }
     let outcome = library.serve(call);
     assert_eq!(outcome, expected, "{call:?}");
     assert!(

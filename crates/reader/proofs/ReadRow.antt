@@ -20,9 +20,9 @@ use Rattle.engine.proofs.Engine.{IsEngine}
 use Rattle.engine.proofs.Coded.{page-within, page-full, page-lawful, lawful-page, coded-revisits}
 use Rattle.engine.proofs.Followed.{followed-none, followed-turn}
 use Rattle.estimate.specs.Estimate.{rowOf}
+use Rattle.exact.specs.Sight.{Sight}
 use Rattle.octets.specs.declared.Coder.{Coder}
 use Rattle.row.specs.QEngine.{qEngine}
-use Rattle.row.specs.WrittenRow.{given}
 use Rattle.row.proofs.WrittenRow.{Seven}
 use Rattle.sight.specs.declared.View.{View}
 use Rattle.sight.specs.declared.Told.{Told as Tells}
@@ -34,21 +34,43 @@ use Rattle.template.specs.Window.{Slid}
 use Rattle.template.specs.Packing.{Row}
 use Rattle.template.proofs.Sliding.{slid-on, slid-small, length-pels, pels-bits}
 use Rattle.template.proofs.Packing.{row-next, pels-next, byte-room}
+use Rattle.top.specs.declared.Top.{Top}
+use Rattle.top.specs.Top.{bottomOf, aboveOf}
+use Rattle.top_row.specs.TopRow.{topEngine, given}
+use Rattle.top_row.proofs.TopEngine.{first-too}
+use Rattle.top_row.proofs.TopPels.{up-bottom}
 use Rattle.unique.specs.QCoder.{qReader}
 
 -- one pel as the code reads it: told as our reader decides, and coded as told
-pub read-told : (c : Coder) (v : View) (code : List ℕ) (e : ℕ) (t : Tells) → ReadPel c v code e t
-    → Told qEngine qReader c (sightOf v (c .interval .width) code) e (t .expected) (t .p)
-    (sightOf (t .view) (t .pel .coder .interval .width) code) (given (t .pel))
+pub read-told : (c : Top) (v : View) (code : List ℕ) (e : ℕ) (t : Tells) → ReadPel c v code e t
+    → Told topEngine qReader c (sightOf v (c .width) code) e (t .expected) (t .p)
+    (sightOf (t .view) (t .pel .coder .width) code) (given (t .pel))
 read-told c v code e t k =
     record {
       asked = k .asked;
       told = k .told;
       moves = ap (λ (z : ℕ). ltb z 0x1000) (taken-width (rowOf e) (t .expected)
-          (sightOf v (c .interval .width) code) (c .interval) refl);
+          (sightOf v (c .width) code) (bottomOf c .interval) refl);
       goes = k .sight;
       pelled = k .pelled;
     }
+
+-- pels followed by the second engine, from the string moved up, are followed by the first, to the string moved down
+pub read-down : (c₀ : Coder) (t₀ : Top) → t₀ ≡ aboveOf c₀ → (width : ℕ) (code : List ℕ) (m₀ m : Page) (t : Top)
+    (n₀ n at₀ at : ℕ) (good₀ good : Bool) (v₀ : View) (r : Sight) (ps : List ℕ)
+    → Followed topEngine qReader width code m₀ t₀ n₀ at₀ good₀ (sightOf v₀ (t₀ .width) code) ps m t n at good r
+    → Followed qEngine qReader width code m₀ c₀ n₀ at₀ good₀ (sightOf v₀ (c₀ .interval .width) code) ps m (bottomOf t)
+    n at good r
+read-down c₀ t₀ up width code m₀ m t n₀ n at₀ at good₀ good v₀ r ps f =
+    subst₂ (λ (c : Coder) (s : Sight). Followed qEngine qReader width code m₀ c n₀ at₀ good₀ s ps m (bottomOf t) n at
+    good r) (up-bottom c₀ t₀ up) (ap (λ (u : Top). sightOf v₀ (u .width) code) up)
+    (record {
+      settled = f .settled;
+      coded = first-too width m₀ m t₀ t n₀ n ps _ (f .coded);
+      read = f .read;
+      matched = f .matched;
+      place = f .place;
+    })
 
 module _ (E : Engine) (K : IsEngine E) (seven : Seven E) (R : Reader) (width : ℕ) (above t₀ : List ℕ)
     (c₀ : E .Registers) (code : List ℕ) (at₀ n₀ : ℕ) (good₀ : Bool) (r₀ : R .State) where

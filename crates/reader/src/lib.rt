@@ -20,6 +20,7 @@ use limits::ROW;
 use octets::Coder;
 use sight::View;
 use template::Window;
+use top::Top;
 
 // Where a reading stands: the writer's registers, the table, the bytes settled and the pels revisited so far, whether
 // each byte agreed with the code, and what is in sight.
@@ -92,7 +93,8 @@ fn run_end(above: &[u8], width: usize, x: usize, known: usize) -> usize
     template::under_to(above, width, x)
 }
 
-// One row, under the row above it.
+// One row, under the row above it. By the second engine, and with the context as one register: the loop has more
+// numbers at hand than a processor has registers, and so fewer of them go through memory.
 pub fn read_row(code: &[u8], above: &[u8], width: usize, start: Progress) -> Line
     requires { ⌜ (width ≤ maxWidth) × (width ≤ 8 * length (now above)) × (1 ≤ width)
         × LawfulTable (start .table .entries) × Ready (lift (start .coder) [])
@@ -101,29 +103,30 @@ pub fn read_row(code: &[u8], above: &[u8], width: usize, start: Progress) -> Lin
         × (start .view .at ≤ length (now code)) × (start .view .look ≤ 7) × (start .view .x < 2 ^ 32) ⌝ }
     ensures { λ r. ⌜ LineRead width (pelsTo (now (above .entry)) width) (now (code .entry)) start r ⌝ }
 {
-    let mut coder = start.coder;
+    let mut coder = Top::above(start.coder);
     let mut table = start.table;
     let mut at = start.at;
     let mut revisits = start.revisits;
     let mut good = start.good;
     let mut view = start.view;
-    let mut window = Window::start(above, width);
+    let first = Window::start(above, width);
+    let mut cx = first.context();
     let mut row = [0u8; ROW];
     let mut end: usize = 0;
     let mut x: usize = 0;
     while x < width {
-        let cx = 4 * window.above + window.this;
         let white = table.entries[0];
         if row::starts_run(white, cx, 0, width) {
             end = run_end(above, width, x, end);
             let q = estimate::row_of(white);
-            let n = interval::fits(end - x, q, view.room(coder.interval.width));
+            let n = interval::fits(end - x, q, view.room(coder.width));
             if n != 0 {
                 let size = (n as u64) * q;
                 coder = coder.still(size);
                 view = view.still(size);
                 x += n;
-                window = Window::white(above, width, x);
+                let behind = Window::white(above, width, x);
+                cx = behind.context();
                 continue;
             }
         }
@@ -139,15 +142,18 @@ pub fn read_row(code: &[u8], above: &[u8], width: usize, start: Progress) -> Lin
             good = match_two(code, at, v.settled, v.first, v.second, good);
             at = at + v.settled;
         }
-        window = window.slide(above, width, x, p);
+        let window = Window::of(cx);
+        let next = window.slide(above, width, x, p);
+        cx = next.context();
         let j = x / 8;
         row[j] = row[j] + pel_in_byte(p, x);
         x += 1;
     }
+    let bottom = coder.bottom();
     Line {
         row: row,
         reading: Progress {
-            coder: coder,
+            coder: bottom,
             table: table,
             at: at,
             revisits: revisits,

@@ -14,16 +14,13 @@ use Rattle.row.specs.declared.Pel.{Pel}
 use Rattle.row.specs.QEngine.{qEngine}
 
 -- ---- one pel: the registers, the entry, whether it shifted, the bytes settled
-abbrev pub bytesOf : Pel → List ℕ
-bytesOf v = take (v .settled) (v .first ∷ v .second ∷ [])
-
 abbrev pub given : Pel → Gives Coder
 given v = record {
   registers = v .coder;
   entry = v .entry;
   revisited = v .revisited;
   settled = v .settled;
-  bytes = bytesOf v;
+  bytes = take (v .settled) (v .first ∷ v .second ∷ []);
 }
 
 abbrev pub Pelled : Coder → ℕ → Bool → Pel → Type 0

@@ -42,7 +42,7 @@ pub struct Run {
 }
 
 // An expected pel with no shift: most are such.
-pub fn still_pel(coder: Coder, e: u8, q: u64) -> Pel
+fn still_pel(coder: Coder, e: u8, q: u64) -> Pel
     requires { ⌜ (q ≡ rowOf e) × (0x1000 + q ≤ coder .interval .width) × Ready (lift coder []) ⌝ }
     ensures { λ r. ⌜ r ≡ stillPel coder e ⌝ }
 {
@@ -58,7 +58,7 @@ pub fn still_pel(coder: Coder, e: u8, q: u64) -> Pel
 }
 
 // A pel that shifted, and its context's next entry.
-pub fn moved_pel(v: Put, entry: u8) -> Pel
+fn moved_pel(v: Put, entry: u8) -> Pel
     ensures { λ r. ⌜ r ≡ movedPel v entry ⌝ }
 {
     let next = v.coder;

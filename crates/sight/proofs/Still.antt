@@ -9,10 +9,10 @@ use mathlib.Core.List.{List}
 use lib.ListN.{length}
 use Rattle.ground.proofs.Tests.{if-ge}
 use Rattle.estimate.specs.Estimate.{rowOf}
-use Rattle.octets.specs.declared.Coder.{Coder}
 use Rattle.exact.specs.Sight.{Sight, nearer, supplied, seek, decide, above}
-use Rattle.row.specs.WrittenRow.{stillPel}
-use Rattle.row.proofs.WrittenRow.{pelled-still}
+use Rattle.top.specs.declared.Top.{Top}
+use Rattle.top_row.specs.TopRow.{stillPel}
+use Rattle.top_row.proofs.TopPels.{pelled-still}
 use Rattle.sight.specs.declared.View.{View}
 use Rattle.sight.specs.declared.Told.{Told}
 use Rattle.sight.specs.Views.{sightOf, ReadPel}
@@ -38,19 +38,19 @@ seek-none zero r h = refl
 seek-none (suc n) r h = if-ge (r .width) 4096 (seek n (nearer (supplied r))) r h
 
 -- ---- one pel: what is in sight says that it is the expected one, and nothing is read
-abbrev pub stillTold : Coder → View → ℕ → Told
+abbrev pub stillTold : Top → View → ℕ → Told
 stillTold c v e = record { expected = true; p = e % 2; view = viewBy (rowOf e) v; pel = stillPel c e }
 
-pub told-still : (c : Coder) (v : View) (code : List ℕ) (e : ℕ) → 4096 + rowOf e ≤ c .interval .width
+pub told-still : (c : Top) (v : View) (code : List ℕ) (e : ℕ) → c .width ≤ c .top → 4096 + rowOf e ≤ c .width
     → rowOf e * 2 ^ v .look ≤ v .x
     → v .at ≤ length code → v .look ≤ 7 → v .x < 2 ^ 32 → ReadPel c v code e (stillTold c v e)
 unfolding decide
-told-still c v code e wide t a l s =
+told-still c v code e holds wide t a l s =
     record {
       asked = sym (ap not (le-ltb (v .x) (rowOf e * 2 ^ v .look) t));
       told = refl;
-      pelled = pelled-still c e wide;
-      sight = sym (seek-none 12 (above (rowOf e) (sightOf v (c .interval .width) code)) (omega arith));
+      pelled = pelled-still c e holds wide;
+      sight = sym (seek-none 12 (above (rowOf e) (sightOf v (c .width) code)) (omega arith));
       within = a;
       near = l;
       small = omega arith;

@@ -20,10 +20,11 @@ use Rattle.coder.specs.Reading.{pelOf}
 use Rattle.coder.proofs.Reading.{pelOf-bit}
 use Rattle.estimate.specs.Estimate.{rowOf}
 use Rattle.estimate.proofs.LawfulEntries.{row-sized}
-use Rattle.octets.specs.declared.Coder.{Coder}
-use Rattle.row.specs.WrittenRow.{Pelled}
 use Rattle.octets.specs.Lift.{lift}
-use Rattle.row.specs.declared.Pel.{Pel}
+use Rattle.top.specs.declared.Top.{Top}
+use Rattle.top.specs.Top.{bottomOf}
+use Rattle.top_row.specs.declared.TopPel.{TopPel}
+use Rattle.top_row.specs.TopRow.{Pelled}
 use Rattle.sight.specs.declared.View.{View}
 use Rattle.sight.specs.declared.Told.{Told}
 use Rattle.sight.specs.Views.{seeks, sightOf, ReadPel}
@@ -171,7 +172,7 @@ view-start a b at at′ n p code ea da eb db en ep =
       unread = (db ∙ ap (λ (l : List ℕ). drop 1 l) da ∙ drop-drop 1 1 code) i;
     }
 
-pub told-bit : (c : Coder) (v : View) (code : List ℕ) (e : ℕ) (t : Told) → ReadPel c v code e t → t .p ≤ 1
+pub told-bit : (c : Top) (v : View) (code : List ℕ) (e : ℕ) (t : Told) → ReadPel c v code e t → t .p ≤ 1
 told-bit c v code e t k = subst (λ (z : ℕ). z ≤ 1) (sym (k .told)) (pelOf-bit (e % 2) (t .expected) (omega arith))
 
 -- the lower part of what is in sight
@@ -181,27 +182,28 @@ part-small e l q p a b h =
     omega (arith, mul-le-mul {n₁ = q} {m₁ = p} {n₂ = 2753} {m₂ = 128} (omega (arith, row-sized e .small)) (omega arith))
 
 -- from what the parts of the code say
-module _ (c : Coder) (v : View) (code : List ℕ) (e : ℕ) (b : Bool) (o : ℕ) (u : Pel) (v₁ v₂ : View) (k : ℕ) where
+module _ (c : Top) (v : View) (code : List ℕ) (e : ℕ) (b : Bool) (o : ℕ) (u : TopPel) (v₁ v₂ : View) (k : ℕ) where
   abbrev seen : Sight
-  seen = sightOf v (c .interval .width) code
+  seen = sightOf v (c .width) code
 
   abbrev part′ : Sight
   part′ = taken (rowOf e) b seen
 
   pub told-moved : decide (rowOf e) seen ≡ b → o ≡ pelOf (e % 2) b → Pelled c e b u
       → part′ ≡ sightOf v₁ (part′ .width) code
-      → k ≡ doublings 12 (partOf (decision (rowOf e) b) (c .interval) .width)
+      → k ≡ doublings 12 (partOf (decision (rowOf e) b) (bottomOf c .interval) .width)
       → ((w : ℕ) → sightOf v₂ (w * 2 ^ k) code ≡ seeks k (sightOf v₁ w code)) → v₂ .at ≤ length code → v₂ .look ≤ 7
       → v₂ .x < 2 ^ 32
       → ReadPel c v code e (record { expected = b; p = o; view = v₂; pel = u })
   told-moved d f p t n a x y z =
-      let m : doublings 12 (part′ .width) ≡ k = ap (doublings 12) (taken-width (rowOf e) b seen (c .interval) refl)
+      let m : doublings 12 (part′ .width) ≡ k
+      = ap (doublings 12) (taken-width (rowOf e) b seen (bottomOf c .interval) refl)
       ∙ sym n in
       let s : seek 12 part′ ≡ sightOf v₂ (part′ .width * 2 ^ k) code
       = seek-seeks 12 part′ ∙ ap (λ (j : ℕ). seeks j part′) m ∙ ap (seeks k) t ∙ sym (a (part′ .width)) in
-      let w : part′ .width * 2 ^ k ≡ u .coder .interval .width
-      = ap (λ (r : Sight). r .width) (sym s) ∙ same-width (rowOf e) b seen (lift c []) refl
-      ∙ ap (λ (r : Registers). r .interval .width) (p .puts) in
+      let w : part′ .width * 2 ^ k ≡ u .coder .width
+      = ap (λ (r : Sight). r .width) (sym s) ∙ same-width (rowOf e) b seen (lift (bottomOf c) []) refl
+      ∙ ap (λ (r : Registers). r .interval .width) (p .puts .0) in
       record {
         asked = sym d;
         told = f;

@@ -6,8 +6,8 @@ use lib.ListN.{drop, length}
 use Rattle.exact.specs.Sight.{Sight, nearer, supplied, seek, decide, taken}
 use Rattle.coder.specs.Reading.{pelOf}
 use Rattle.estimate.specs.Estimate.{rowOf}
-use Rattle.octets.specs.declared.Coder.{Coder}
-use Rattle.row.specs.WrittenRow.{Pelled}
+use Rattle.top.specs.declared.Top.{Top}
+use Rattle.top_row.specs.TopRow.{Pelled}
 use Rattle.sight.specs.declared.View.{View}
 use Rattle.sight.specs.declared.Told.{Told}
 
@@ -21,12 +21,12 @@ seeks zero r = r
 seeks (suc k) r = seeks k (nearer (supplied r))
 
 -- ---- one pel read: the decision, the writer's pel, and the view after it
-pub record ReadPel (c : Coder) (v : View) (code : List ℕ) (e : ℕ) (t : Told) : Type 0 where
-  pub asked : t .expected ≡ decide (rowOf e) (sightOf v (c .interval .width) code)
+pub record ReadPel (c : Top) (v : View) (code : List ℕ) (e : ℕ) (t : Told) : Type 0 where
+  pub asked : t .expected ≡ decide (rowOf e) (sightOf v (c .width) code)
   pub told : t .p ≡ pelOf (e % 2) (t .expected)
   pub pelled : Pelled c e (t .expected) (t .pel)
-  pub sight : sightOf (t .view) (t .pel .coder .interval .width) code ≡ seek 12
-      (taken (rowOf e) (t .expected) (sightOf v (c .interval .width) code))
+  pub sight : sightOf (t .view) (t .pel .coder .width) code ≡ seek 12
+      (taken (rowOf e) (t .expected) (sightOf v (c .width) code))
   pub within : t .view .at ≤ length code
   pub near : t .view .look ≤ 7
   pub small : t .view .x < 2 ^ 32

@@ -10,12 +10,13 @@ ghost use Rattle.octets.specs.Octets.{bits};
 ghost use Rattle.coder.specs.Reading.{pelOf};
 ghost use Rattle.octets.specs.Fit.{Ready};
 ghost use Rattle.octets.specs.Lift.{lift};
+ghost use Rattle.top.specs.Top.{bottomOf};
 ghost use Rattle.exact.specs.Sight.{opened};
 ghost use Rattle.exact.specs.Sight as law;
 ghost use Rattle.sight.specs.Views.{sightOf, seeks, ReadPel};
 ghost use Rattle.sight.specs.Still.{viewBy};
-use octets::Coder;
-use row::Pel;
+use top::Top;
+use top_row::TopPel;
 
 // What is in sight of a code: its bits read so far less the low end, how many of them lie ahead, the byte last read,
 // and where the next stands.
@@ -37,7 +38,7 @@ pub struct Told {
     pub expected: bool,
     pub p: u8,
     pub view: View,
-    pub pel: Pel,
+    pub pel: TopPel,
 }
 
 // The byte at a place; past the end it is 0.
@@ -162,18 +163,17 @@ fn pel_told(e: u8, expected: bool) -> u8
 }
 
 // One pel: the code tells it, and the writer codes it.
-pub fn read_pel(coder: Coder, view: View, code: &[u8], e: u8) -> Told
-    requires { ⌜ Ready (lift coder []) × LawfulEntry e × (coder .interval .count < maxShifts)
-        × (view .at ≤ length (now code)) × (view .look ≤ 7)
-        × (view .x < 2 ^ 32) ⌝ }
+pub fn read_pel(coder: Top, view: View, code: &[u8], e: u8) -> Told
+    requires { ⌜ Ready (lift (bottomOf coder) []) × (coder .width ≤ coder .top) × LawfulEntry e
+        × (coder .count < maxShifts) × (view .at ≤ length (now code)) × (view .look ≤ 7) × (view .x < 2 ^ 32) ⌝ }
     ensures { λ r. ⌜ ReadPel coder view (now (code .entry)) e r ⌝ }
 {
     let q = estimate::row_of(e);
     let part = q * octets::power(view.look);
     if part <= view.x {
         let rest = view.still(q);
-        if 0x1000 + q <= coder.interval.width {
-            let pel = row::still_pel(coder, e, q);
+        if 0x1000 + q <= coder.width {
+            let pel = top_row::still_pel(coder, e, q);
             return Told {
                 expected: true,
                 p: pel_told(e, true),
@@ -183,7 +183,7 @@ pub fn read_pel(coder: Coder, view: View, code: &[u8], e: u8) -> Told
         }
         let v = coder.pel(q, true);
         let next = rest.advance(code, v.shifts);
-        let pel = row::moved_pel(v, estimate::next_entry(e, true));
+        let pel = top_row::moved_pel(v, estimate::next_entry(e, true));
         return Told {
             expected: true,
             p: pel_told(e, true),
@@ -193,7 +193,7 @@ pub fn read_pel(coder: Coder, view: View, code: &[u8], e: u8) -> Told
     }
     let v = coder.pel(q, false);
     let next = view.advance(code, v.shifts);
-    let pel = row::moved_pel(v, estimate::next_entry(e, false));
+    let pel = top_row::moved_pel(v, estimate::next_entry(e, false));
     Told {
         expected: false,
         p: pel_told(e, false),

@@ -1,6 +1,6 @@
 -- The context slides: the registers' sum is document 01's at every pel. Assumes nothing.
 use mathlib.Core.Path.{_≡_, refl, sym, ap, _∙_, subst}
-use Prim.Native.Nat.{ℕ, zero, suc, _+_, _-_, _*_, _%_, _≤_, _<_}
+use Prim.Native.Nat.{ℕ, zero, suc, _+_, _-_, _*_, _/_, _%_, _≤_, _<_}
 use native.Mathlib.Omega.{arith}
 use mathlib.Core.Bool.{Bool, true, false, cond, not}
 use mathlib.Core.List.{List, [], _∷_, _++_}
@@ -11,7 +11,7 @@ use native.Mathlib.Decide.{decLt}
 use Rattle.ground.proofs.Tests.{by-cond, if-ge}
 use Rattle.template.specs.declared.Window.{Window}
 use Rattle.template.specs.Pels.{pelAt, pelsTo, leftOf, rightOf, context}
-use Rattle.template.specs.Window.{Slid}
+use Rattle.template.specs.Window.{Slid, parted}
 
 -- ---- the pels of a packed row, one by one
 -- Pels are 0 (white) or 1 (black).
@@ -147,3 +147,13 @@ slid-on above this x p w w′ a b l h s wa wt =
     (record { above = (2 * w .above + getD above (k + 3) 0) % 32; this = (2 * w .this + p) % 4 })) l
     (slid-next above this p w a b h (subst (λ (k : ℕ). Slid above this k w) (sym l) s)) in
     record { five = wa ∙ n .five; two = wt ∙ n .two }
+
+-- the registers of a context are those whose sum it is
+pub parted-sum : (w : Window) → w .this < 4 → parted (4 * w .above + w .this) ≡ w
+parted-sum w h = λ i. record { above = high (w .above) (w .this) h i; this = low (w .above) (w .this) h i }
+  where
+    high : (a t : ℕ) → t < 4 → (4 * a + t) / 4 ≡ a
+    high a t l = omega arith
+
+    low : (a t : ℕ) → t < 4 → (4 * a + t) % 4 ≡ t
+    low a t l = omega arith

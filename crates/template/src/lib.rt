@@ -5,7 +5,7 @@ ghost use mathlib.Core.List.{[]};
 ghost use lib.ListN.{length, getD};
 ghost use Rattle.limits.specs.Limits.{maxWidth, maxRows, lastBytes};
 ghost use Rattle.template.specs.Pels.{rowBytes, pelAt, pelsTo, rowPadded, bandPadded};
-ghost use Rattle.template.specs.Window.{Slid};
+ghost use Rattle.template.specs.Window.{Slid, parted};
 ghost use Rattle.template.specs.Words.{Word};
 ghost use Rattle.template.specs.White.{White, Under, Clear, whiteWindow};
 
@@ -215,6 +215,24 @@ impl Window {
     {
         let a = edge_pel(above, width, x + 2);
         Window { above: a, this: 0 }
+    }
+
+    // From the context, as one register.
+    pub fn of(cx: usize) -> Self
+        ensures { λ r. ⌜ r ≡ parted cx ⌝ }
+    {
+        Window {
+            above: cx / 4,
+            this: cx % 4,
+        }
+    }
+
+    // The context.
+    pub fn context(self) -> usize
+        requires { ⌜ (self .above < 32) × (self .this < 4) ⌝ }
+        ensures { λ r. ⌜ (parted r ≡ self) × (r < 128) ⌝ }
+    {
+        4 * self.above + self.this
     }
 
     // At x + 1, after the pel at x.

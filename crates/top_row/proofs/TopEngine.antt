@@ -32,6 +32,18 @@ topIsEngine =
       some = λ c. qIsEngine .some (bottomOf c);
     }
 
+-- whatever the second engine codes, the first does, from the string moved down to the string moved down
+pub first-too : (width : ℕ) (m₀ m : Page) (t₀ t : Top) (n₀ n : ℕ) (ps xs : List ℕ)
+    → Coded topEngine width m₀ t₀ n₀ ps m t n xs → Coded qEngine width m₀ (bottomOf t₀) n₀ ps m (bottomOf t) n xs
+first-too width m₀ m t₀ t n₀ n ps xs f =
+    record {
+      stage = f .stage;
+      few = f .few;
+      lawful = f .lawful;
+      ready = f .ready .0;
+      count = f .count;
+    }
+
 -- whatever the first engine codes, the second does, from the string moved up to the string moved up
 pub second-too : (width : ℕ) (m₀ m : Page) (c₀ c : Coder) (n₀ n : ℕ) (ps xs : List ℕ)
     → Coded qEngine width m₀ c₀ n₀ ps m c n xs → Coded topEngine width m₀ (aboveOf c₀) n₀ ps m (aboveOf c) n xs

@@ -26,6 +26,7 @@ use Rattle.top.specs.declared.TopPut.{TopPut}
 use Rattle.top.specs.Top.{bottomOf, aboveOf, narrowed, topSettled}
 use Rattle.top.proofs.Moved.{above-bottom, above-holds, narrowed-still, narrowed-none, narrowed-more}
 use Rattle.top_row.specs.TopRow.{topEngine, Pelled, stillPel, movedPel}
+use Rattle.top_row.proofs.TopEngine.{first-too}
 
 pub topSeven : Seven topEngine
 topSeven above this x = refl
@@ -82,22 +83,19 @@ module _ (c₀ : Coder) (t₀ : Top) (up : t₀ ≡ aboveOf c₀) where
   pub up-count : t₀ .count ≡ c₀ .interval .count
   up-count = ap (λ (t : Top). t .count) up
 
+  pub up-bottom : bottomOf t₀ ≡ c₀
+  up-bottom = ap bottomOf up ∙ above-bottom c₀
+
   -- it is a row of the first engine
   pub down : (width : ℕ) (m₀ m : Page) (t : Top) (n₀ n : ℕ) (out₀ out : List ℕ) (at₀ at : ℕ) (ps : List ℕ)
       → Stored topEngine width m₀ t₀ n₀ out₀ at₀ ps m t n out at
       → Stored qEngine width m₀ c₀ n₀ out₀ at₀ ps m (bottomOf t) n out at
   down width m₀ m t n₀ n out₀ out at₀ at ps f =
       subst (λ (c : Coder). Stored qEngine width m₀ c n₀ out₀ at₀ ps m (bottomOf t) n out at)
-      (ap bottomOf up ∙ above-bottom c₀)
+      up-bottom
       (record {
         settled = f .settled;
-        coded = record {
-          stage = f .coded .stage;
-          few = f .coded .few;
-          lawful = f .coded .lawful;
-          ready = f .coded .ready .0;
-          count = f .coded .count;
-        };
+        coded = first-too width m₀ m t₀ t n₀ n ps _ (f .coded);
         stored = f .stored;
         place = f .place;
       })

@@ -29,7 +29,7 @@ pub struct TopPel {
 }
 
 // An expected pel with no shift: the width alone changes.
-fn still_pel(coder: Top, e: u8, q: u64) -> TopPel
+pub fn still_pel(coder: Top, e: u8, q: u64) -> TopPel
     requires { ⌜ (q ≡ rowOf e) × (q ≤ coder .width) ⌝ }
     ensures { λ r. ⌜ r ≡ stillPel coder e ⌝ }
 {
@@ -45,7 +45,7 @@ fn still_pel(coder: Top, e: u8, q: u64) -> TopPel
 }
 
 // A pel that shifted, and its context's next entry.
-fn moved_pel(v: TopPut, entry: u8) -> TopPel
+pub fn moved_pel(v: TopPut, entry: u8) -> TopPel
     ensures { λ r. ⌜ r ≡ movedPel v entry ⌝ }
 {
     let next = v.coder;

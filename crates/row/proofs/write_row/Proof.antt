@@ -20,7 +20,7 @@ use Rattle.template.proofs.Sliding.{pels-bits, slid-context}
 use Rattle.estimate.specs.declared.Table.{Table}
 use Rattle.engine.proofs.Coded.{pelled-kept}
 use Rattle.row.specs.QEngine.{qEngine}
-use Rattle.row.specs.WrittenRow.{bytesOf, given}
+use Rattle.row.specs.WrittenRow.{given}
 use Rattle.row.proofs.QEngine.{qIsEngine}
 use Rattle.row.proofs.WrittenRow.{qSeven, RowAt, row-start, row-again, row-done, row-window, row-lawful}
 use Rattle.row.proofs.WrittenRow.{row-count, row-place, row-revisits, row-length}
@@ -244,7 +244,7 @@ loop-again-2 c =
     let above = pelsTo (a .above .now) (a .width) in
     let cx = 4 * l .window .above + l .window .this in
     let put : (j .table .entries ≡ set (l .table .entries) cx (v .result .entry))
-    × (j .out ≡ stores (l .out) (l .at) (bytesOf (v .result)))
+    × (j .out ≡ stores (l .out) (l .at) (given (v .result) .bytes))
     × (j .at ≡ l .at + v .result .settled)
     × (j .revisits ≡ counted (v .result .revisited) (l .revisits))
     = ⊎-elim (λ w. (

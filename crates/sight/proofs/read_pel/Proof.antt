@@ -7,8 +7,8 @@ use Rattle.estimate.specs.Estimate.{rowOf}
 use Rattle.estimate.proofs.LawfulEntries.{row-sized}
 use Rattle.interval.proofs.Growing.{doublings-few}
 use Rattle.exact.proofs.Reader.{decide-true, decide-false}
-use Rattle.row.specs.WrittenRow.{movedPel}
-use Rattle.row.proofs.WrittenRow.{pelled-moved}
+use Rattle.top_row.specs.TopRow.{movedPel}
+use Rattle.top_row.proofs.TopPels.{pelled-moved}
 use Rattle.sight.specs.declared.View.{View}
 use Rattle.sight.specs.Views.{sightOf}
 use Rattle.sight.proofs.Views.{told-moved, part-small}
@@ -60,7 +60,7 @@ still-requires : tie.Need-still-requires
 still-requires c κs =
     let z = c .before .before in
     let p = begin z .pre in
-    (p .4, rw (z .power .ensures) at (c .if1 .taken), p .5)
+    (p .5, rw (z .power .ensures) at (c .if1 .taken), p .6)
 
 add-if2 : tie.Need-add-if2
 add-if2 c =
@@ -78,20 +78,20 @@ returns c =
     let p = begin z .pre in
     let q = z .before .row-of .ensures in
     rw (c .pel-told .ensures .0, c .before .still-pel .ensures, s .still .ensures, q)
-    (told-still (a .coder) (a .view) (a .code .now) (a .e) (omega (arith, q, c .before .before .if2 .taken))
-    (enough (s .before)) (p .3) (p .4) (p .5))
+    (told-still (a .coder) (a .view) (a .code .now) (a .e) (p .1) (omega (arith, q, c .before .before .if2 .taken))
+    (enough (s .before)) (p .4) (p .5) (p .6))
 
 pel-requires : tie.Need-pel-requires
 pel-requires c κs =
     let z = sized (c .before .before) in
     let a = begin z .args in
     let p = begin z .pre in
-    rw (z .before .row-of .ensures) (p .0, row-sized (a .e) .some, row-sized (a .e) .small, p .2)
+    rw (z .before .row-of .ensures) (p .0, p .1, row-sized (a .e) .some, row-sized (a .e) .small, p .3)
 
 advance-requires : tie.Need-advance-requires
 advance-requires c κs =
     let p = begin (sized (taken c)) .pre in
-    rw (taken c .still .ensures) (p .3, p .4, omega (arith, p .5), rw (c .pel .ensures .2) (doublings-few 12 _))
+    rw (taken c .still .ensures) (p .4, p .5, omega (arith, p .6), rw (c .pel .ensures .3) (doublings-few 12 _))
 
 next-entry-requires : tie.Need-next-entry-requires
 next-entry-requires c κs = search needs
@@ -109,14 +109,14 @@ returns-2 c =
     let v = rw q at (l .pel .ensures) in
     let s = k .still in
     let n = c .before .before .next-entry in
-    let w = a .coder .interval .width in
+    let w = a .coder .width in
     let r : s .result ≡ viewBy (rowOf (a .e)) (a .view) = s .ensures ∙ ap (λ (n : ℕ). viewBy n (a .view)) q in
     let d = c .before .before .before .advance in
     rw (c .before .moved-pel .ensures)
     (told-moved (a .coder) (a .view) (a .code .now) (a .e) true _ (movedPel (l .pel .result) (n .result)) (s .result)
     (d .result) _ (decide-true _ (sightOf (a .view) w (a .code .now)) (enough (k .before))) (c .pel-told2 .ensures .0)
     (pelled-moved (a .coder) (a .e) true (l .pel .result) _ (omega (arith, q, l .before .if2 .left)) (v .0) (v .1)
-    (n .ensures)) (ap (λ (u : View). sightOf u (w - rowOf (a .e)) (a .code .now)) (sym r)) (v .2) (d .ensures .0)
+    (v .2) (n .ensures)) (ap (λ (u : View). sightOf u (w - rowOf (a .e)) (a .code .now)) (sym r)) (v .3) (d .ensures .0)
     (d .ensures .1) (d .ensures .2) (d .ensures .3))
 
 pel-requires-2 : tie.Need-pel-requires-2
@@ -124,12 +124,12 @@ pel-requires-2 c κs =
     let z = c .before .before in
     let a = begin z .args in
     let p = begin z .pre in
-    rw (z .before .row-of .ensures) (p .0, row-sized (a .e) .some, row-sized (a .e) .small, p .2)
+    rw (z .before .row-of .ensures) (p .0, p .1, row-sized (a .e) .some, row-sized (a .e) .small, p .3)
 
 advance-requires-2 : tie.Need-advance-requires-2
 advance-requires-2 c κs =
     let p = begin (sized₂ c) .pre in
-    (p .3, p .4, p .5, rw (c .pel2 .ensures .2) (doublings-few 12 _))
+    (p .4, p .5, p .6, rw (c .pel2 .ensures .3) (doublings-few 12 _))
 
 next-entry-requires-2 : tie.Need-next-entry-requires-2
 next-entry-requires-2 c κs = search needs
@@ -145,13 +145,13 @@ returns-3 c =
     let q = z .before .row-of .ensures in
     let v = rw q at (l .pel2 .ensures) in
     let n = c .before .before .next-entry2 in
-    let w = a .coder .interval .width in
+    let w = a .coder .width in
     let d = c .before .before .before .advance2 in
     rw (c .before .moved-pel2 .ensures)
     (told-moved (a .coder) (a .view) (a .code .now) (a .e) false _ (movedPel (l .pel2 .result) (n .result)) (a .view)
     (d .result) _ (decide-false _ (sightOf (a .view) w (a .code .now)) (short (l .before))) (c .pel-told3 .ensures .0)
     (pelled-moved (a .coder) (a .e) false (l .pel2 .result) _ (omega (arith, row-sized (a .e) .small)) (v .0) (v .1)
-    (n .ensures)) refl (v .2) (d .ensures .0) (d .ensures .1) (d .ensures .2) (d .ensures .3))
+    (v .2) (n .ensures)) refl (v .3) (d .ensures .0) (d .ensures .1) (d .ensures .2) (d .ensures .3))
 
 pub read-pel-spec : {M : Type 1} → statement M
 read-pel-spec =
