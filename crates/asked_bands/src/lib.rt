@@ -2,7 +2,7 @@
 ghost use Rattle.parts.specs.Parts.{parts_of, Sized};
 ghost use Rattle.desk.specs.Calls.{writes, reads};
 ghost use Rattle.parts.specs.Replies.{Serves};
-ghost use Rattle.desk.specs.Asked.{askOf};
+ghost use Rattle.desk.specs.Asked.{ask_of};
 
 use desk::{Ask, Key};
 use limits::{CONTEXTS, PAGES, PLACES, ROW};
@@ -21,7 +21,7 @@ pub fn written<'a, 'b, 'c>(
 ) -> Reply
     requires { Sized working.old rows.old learned.old }
     ensures { Serves (parts_of book working.old rows.old learned.old)
-        (writes (askOf school class count) pels.now out.old) result.answer
+        (writes (ask_of school class count) pels.now out.old) result.answer
         (parts_of result.book working.new rows.new learned.new) out.new }
 {
     let ask = Ask {
@@ -47,7 +47,7 @@ pub fn read<'a, 'b, 'c>(
 ) -> Reply
     requires { Sized working.old rows.old learned.old }
     ensures { Serves (parts_of book working.old rows.old learned.old)
-        (reads (askOf school class count) code.now out.old) result.answer
+        (reads (ask_of school class count) code.now out.old) result.answer
         (parts_of result.book working.new rows.new learned.new) out.new }
 {
     let ask = Ask {

@@ -3,7 +3,7 @@ ghost use Rattle.std.specs.Prelude.{◌≡◌, []};
 ghost use Rattle.parts.specs.Parts.{parts_of, Sized};
 ghost use Rattle.desk.specs.Calls.{opens, closes, abandons};
 ghost use Rattle.parts.specs.Replies.{Serves};
-ghost use Rattle.desk.specs.Asked.{asKey, askedTo, toWrite, toRead};
+ghost use Rattle.desk.specs.Asked.{as_key, asked_to, to_write, to_read};
 
 use desk::{Direction, Key, Opening};
 use limits::{CONTEXTS, PAGES, PLACES, ROW};
@@ -19,7 +19,7 @@ pub fn closed<'a>(
 ) -> Reply
     requires { Sized working.old rows.old learned.old }
     ensures { Serves (parts_of book working.old rows.old learned.old)
-        (closes (asKey school class)) result.answer
+        (closes (as_key school class)) result.answer
         (parts_of result.book working.new rows.new learned.new) [] }
 {
     let key = Key {
@@ -39,7 +39,7 @@ pub fn abandoned<'a>(
 ) -> Reply
     requires { Sized working.old rows.old learned.old }
     ensures { Serves (parts_of book working.old rows.old learned.old)
-        (abandons (asKey school class))
+        (abandons (as_key school class))
         result.answer (parts_of result.book working.new rows.new learned.new) [] }
 {
     let key = Key {
@@ -51,7 +51,7 @@ pub fn abandoned<'a>(
 
 // What an open is asked.
 fn asked_to(school: u64, class: u64, direction: Direction, width: u64) -> Opening
-    ensures { result ≡ askedTo school class direction width }
+    ensures { result ≡ asked_to school class direction width }
 {
     Opening {
         key: Key {
@@ -74,7 +74,7 @@ pub fn opened_to_write<'a>(
 ) -> Reply
     requires { Sized working.old rows.old learned.old }
     ensures { Serves (parts_of book working.old rows.old learned.old)
-        (opens (toWrite school class width))
+        (opens (to_write school class width))
         result.answer (parts_of result.book working.new rows.new learned.new) [] }
 {
     let ask = asked_to(school, class, Direction::Write, width);
@@ -92,7 +92,7 @@ pub fn opened_to_read<'a>(
 ) -> Reply
     requires { Sized working.old rows.old learned.old }
     ensures { Serves (parts_of book working.old rows.old learned.old)
-        (opens (toRead school class width))
+        (opens (to_read school class width))
         result.answer (parts_of result.book working.new rows.new learned.new) [] }
 {
     let ask = asked_to(school, class, Direction::Read, width);

@@ -1,10 +1,10 @@
 // The calls of tables with numbers for what is asked: other languages hand over no records.
 ghost use Rattle.std.specs.Prelude.{◌≡◌, []};
-ghost use Rattle.desk.specs.Places.{emptyDesk};
-ghost use Rattle.parts.specs.Parts.{deskOf, parts_of, Sized, Whole};
+ghost use Rattle.desk.specs.Places.{empty_desk};
+ghost use Rattle.parts.specs.Parts.{desk_of, parts_of, Sized, Whole};
 ghost use Rattle.desk.specs.Calls.{drops, looks};
 ghost use Rattle.parts.specs.Replies.{Serves};
-ghost use Rattle.desk.specs.Asked.{asKey};
+ghost use Rattle.desk.specs.Asked.{as_key};
 
 use desk::Key;
 use limits::{CONTEXTS, PAGES, PLACES, ROW};
@@ -20,7 +20,7 @@ pub fn forgotten<'a>(
 ) -> Reply
     requires { Sized working.old rows.old learned.old }
     ensures { Serves (parts_of book working.old rows.old learned.old)
-        (drops (asKey school class)) result.answer
+        (drops (as_key school class)) result.answer
         (parts_of result.book working.new rows.new learned.new) [] }
 {
     let key = Key {
@@ -41,7 +41,7 @@ pub fn looked<'a, 'b>(
 ) -> Reply
     requires { Sized working.old rows.old learned.old }
     ensures { Serves (parts_of book working.old rows.old learned.old)
-        (looks (asKey school class)
+        (looks (as_key school class)
         out.old) result.answer (parts_of result.book working.new rows.new
         learned.new) out.new }
 {
@@ -59,7 +59,7 @@ pub fn emptied<'a>(
     learned: &'a mut [[u8; CONTEXTS]; PLACES],
 ) -> Book
     requires { Sized working.old rows.old learned.old }
-    ensures { (deskOf (parts_of result working.new rows.new learned.new) ≡ emptyDesk)
+    ensures { (desk_of (parts_of result working.new rows.new learned.new) ≡ empty_desk)
         × Whole (parts_of
         result working.new rows.new learned.new) }
 {

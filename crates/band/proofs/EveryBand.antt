@@ -14,39 +14,39 @@ use Rattle.exact.specs.Value.{LawfulBytes, Made, LengthLaw, last_of, value, plac
 use Rattle.exact.proofs.Codes.{coded, value_written, length-law}
 use Rattle.exact.proofs.Codes as exactly
 use Rattle.exact.proofs.Follows.{one-made, last-not-ff}
-use Rattle.template.specs.Pels.{bandTo}
-use Rattle.band.specs.Band.{qWriter, qPage, written}
+use Rattle.template.specs.Pels.{band_to}
+use Rattle.band.specs.Band.{q_writer, q_page, written}
 use Rattle.band.specs.Decisions.{decisions, opened, decided}
 
 module _ (width : ℕ) where
-  all-sized : (ps : List ℕ) (s : Stage (qPage width) qWriter) → AllSized (decisions width s ps)
+  all-sized : (ps : List ℕ) (s : Stage (q_page width) q_writer) → AllSized (decisions width s ps)
   unfolding decisions size
   all-sized [] s = tt
   all-sized (p ∷ ps) s = (
     record { some = (row_sized _).some; small = (row_sized _).small },
     all-sized ps
-        (step (qPage width) qWriter s p),
+        (step (q_page width) q_writer s p),
   )
 
-  run_is : (ps : List ℕ) (s : Stage (qPage width) qWriter) → (after (qPage width) qWriter s ps).writer ≡ run
+  run_is : (ps : List ℕ) (s : Stage (q_page width) q_writer) → (after (q_page width) q_writer s ps).writer ≡ run
       (decisions width s ps) s.writer
   unfolding decisions run after
   run_is [] s = refl
-  run_is (p ∷ ps) s = run_is ps (step (qPage width) qWriter s p)
+  run_is (p ∷ ps) s = run_is ps (step (q_page width) q_writer s p)
 
 module _ (width rows : ℕ) (table last band : List ℕ) where
   sizes : AllSized (decided width rows table last band)
-  sizes = all-sized width (bandTo width band rows) (opened width rows table last band)
+  sizes = all-sized width (band_to width band rows) (opened width rows table last band)
 
   code_is : exactly.written (decided width rows table last band) ≡ (written width rows table last band).code
   unfolding written exactly.written
   code_is = ap (λ (w : Registers). Rattle.octets.specs.Octets.code w)
-      (sym (run_is width (bandTo width band rows) (opened width rows table last band)))
+      (sym (run_is width (band_to width band rows) (opened width rows table last band)))
 
   shifts-is : exactly.counted (decided width rows table last band) ≡ (written width rows table last band).shifts
   unfolding written exactly.counted
   shifts-is = ap (λ (w : Registers). w.interval.count)
-      (sym (run_is width (bandTo width band rows) (opened width rows table last band)))
+      (sym (run_is width (band_to width band rows) (opened width rows table last band)))
 
   -- every byte is below 256, and a byte after FF is at most 8F
   pub code-lawful : LawfulBytes 0 (written width rows table last band).code

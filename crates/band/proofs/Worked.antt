@@ -5,33 +5,33 @@ use Prim.Native.Nat.{ℕ, zero, suc, ◌≤◌}
 use native.Mathlib.Omega.{arith}
 use mathlib.Core.List.{List, [], ◌∷◌}
 use lib.ListN.{get_or, length}
-use Rattle.coder.specs.Writing.{after, bandCode}
+use Rattle.coder.specs.Writing.{after, band_code}
 use Rattle.coder.specs.Page.{context_of, entry_at, size, sense, taught, placed, move}
-use Rattle.estimate.specs.Estimate.{rowOf, rise, fall, flip, next, fresh}
+use Rattle.estimate.specs.Estimate.{row_of, rise, fall, flip, next, fresh}
 use Rattle.octets.specs.Octets.{bits, carried, left, byte, due, shifts, pads, cover, finish, bytes, follows, ended}
 use Rattle.octets.specs.Octets.{code}
-use Rattle.template.specs.Pels.{row_at, pelAt, pelsTo, bandTo, left_of, rightOf, context}
+use Rattle.template.specs.Pels.{row_at, pel_at, pels_to, band_to, left_of, right_of, context}
 use Rattle.template.proofs.Sliding.{pel-bit}
-use Rattle.band.specs.Band.{written, lastRow, white, qWriter, qPage, pageAt}
+use Rattle.band.specs.Band.{written, last_row, white, q_writer, q_page, page_at}
 use Rattle.band.specs.Worked.{new, damaged, Holds, All, cases}
 
 -- a band of one pel is written as one of two codes
-abbrev pelCode : ℕ → List ℕ
-pelCode p = bandCode (qPage 1) qWriter (pageAt 1 new.table new.last) (p ∷ [])
+abbrev pel_code : ℕ → List ℕ
+pel_code p = band_code (q_page 1) q_writer (page_at 1 new.table new.last) (p ∷ [])
 
-two-codes : (p : ℕ) → p ≤ 1 → (pelCode p ≡ 0xAC ∷ 0x10 ∷ []) ⊎ (pelCode p ≡ 0x00 ∷ 0x00 ∷ [])
-unfolding written lastRow white after context_of entry_at size sense taught placed move rowOf rise fall flip next fresh
-    bits carried left byte due shifts pads cover finish bytes follows ended code pelAt pelsTo bandTo left_of rightOf
+two-codes : (p : ℕ) → p ≤ 1 → (pel_code p ≡ 0xAC ∷ 0x10 ∷ []) ⊎ (pel_code p ≡ 0x00 ∷ 0x00 ∷ [])
+unfolding written last_row white after context_of entry_at size sense taught placed move row_of rise fall flip next fresh
+    bits carried left byte due shifts pads cover finish bytes follows ended code pel_at pels_to band_to left_of right_of
     context
 two-codes zero h = inl refl
 two-codes (suc zero) h = inr refl
 two-codes (suc (suc n)) h = absurd (omega arith)
 
 one-pel : (c : List ℕ) → (c ≡ 0xAC ∷ 0x10 ∷ [] → ⊥) → (c ≡ 0x00 ∷ 0x00 ∷ [] → ⊥) → Holds (damaged 1 1 c)
-unfolding written bandTo pelsTo
-one-pel c f g pels l e = go (two-codes (pelAt (row_at 1 pels 0) 0) (pel-bit (row_at 1 pels 0) 0))
+unfolding written band_to pels_to
+one-pel c f g pels l e = go (two-codes (pel_at (row_at 1 pels 0) 0) (pel-bit (row_at 1 pels 0) 0))
   where
-    go : (pelCode (pelAt (row_at 1 pels 0) 0) ≡ 0xAC ∷ 0x10 ∷ []) ⊎ (pelCode (pelAt (row_at 1 pels 0) 0) ≡ 0x00
+    go : (pel_code (pel_at (row_at 1 pels 0) 0) ≡ 0xAC ∷ 0x10 ∷ []) ⊎ (pel_code (pel_at (row_at 1 pels 0) 0) ≡ 0x00
         ∷ 0x00 ∷ []) → ⊥
     go (inl k) = f (sym e ∙ k)
     go (inr k) = g (sym e ∙ k)
@@ -56,8 +56,8 @@ none = one-pel [] (longer 0 2 _ _ refl refl (λ e. omega arith)) (longer 0 2 _ _
 
 -- the single claim: every row of the table holds
 pub worked : All cases
-unfolding written lastRow white after context_of entry_at size sense taught placed move rowOf rise fall flip next fresh
-    bits carried left byte due shifts pads cover finish bytes follows ended code pelAt pelsTo bandTo left_of rightOf
+unfolding written last_row white after context_of entry_at size sense taught placed move row_of rise fall flip next fresh
+    bits carried left byte due shifts pads cover finish bytes follows ended code pel_at pels_to band_to left_of right_of
     context
 worked = (
   (refl, refl),

@@ -1,7 +1,7 @@
 -- Document 01, "Bands worked by hand": P1 to P11, rows of a single table under a single claim. Assumes nothing.
 use Rattle.std.specs.Prelude.{◌≡◌, ℕ, ◌*◌, false, List, [], ◌∷◌, length}
 use Rattle.estimate.specs.Estimate.{next, entry_of, fresh}
-use Rattle.template.specs.Pels.{rowBytes}
+use Rattle.template.specs.Pels.{row_bytes}
 use Rattle.band.specs.Band.{written, white}
 
 -- A page so far: its table and last row.
@@ -36,7 +36,7 @@ Holds (band width rows page pels c s) =
 Holds (unexpected i s i' s') = next false (entry_of i s) ≡ entry_of i' s'
 Holds (damaged width rows c) =
     (pels : List ℕ)
-    → length pels ≡ rows * rowBytes width
+    → length pels ≡ rows * row_bytes width
     → (written width rows new.table new.last pels).code ≡ c
     → ⊥
 

@@ -6,7 +6,7 @@ use mathlib.Core.List.{List, []}
 use lib.ListN.{get_or, set}
 use Rattle.ground.specs.Options.{or_else}
 use Rattle.estimate.specs.declared.Table.{Table}
-use Rattle.unique.specs.BandOfCode.{bandOfCode}
+use Rattle.unique.specs.BandOfCode.{band_of_code}
 use Rattle.desk.specs.declared.Key.{Key}
 use Rattle.parts.specs.declared.Book.{Book}
 use Rattle.parts.specs.declared.Parts.{Parts}
@@ -17,10 +17,10 @@ use Rattle.desk.specs.declared.Found.{Found}
 use Rattle.desk.specs.declared.Found.TheVariants.{At, Nothing}
 use Rattle.parts.specs.declared.Sought.TheVariants.{Used, Learned}
 use Rattle.desk.specs.Desk.{Page, Place, Desk}
-use Rattle.parts.specs.Parts.{pagesOf, places_of, deskOf, parts_of, Whole}
-use Rattle.desk.specs.Places.{noPage, unusedPage, freePlace, findBy, pageFound, placeFound, tableFound, freePlaceFound}
-use Rattle.desk.specs.Places.{isFound}
-use Rattle.parts.specs.Finding.{placeSought}
+use Rattle.parts.specs.Parts.{pages_of, places_of, desk_of, parts_of, Whole}
+use Rattle.desk.specs.Places.{no_page, unused_page, free_place, find_by, page_found, place_found, table_found, free_place_found}
+use Rattle.desk.specs.Places.{is_found}
+use Rattle.parts.specs.Finding.{place_sought}
 use Rattle.parts.proofs.Lines.{page-in, find-places}
 use Rattle.parts.specs.Puts.{PagePut, PlacePut}
 use Rattle.parts.proofs.Puts.{page-whole, place-whole}
@@ -28,89 +28,89 @@ use Rattle.desk.specs.Lawful.{lawful}
 use Rattle.desk.proofs.OpenPages.{page-placed}
 use Rattle.desk.specs.Refusals.{refusal}
 use Rattle.desk.specs.Calls.{closes, abandons}
-use Rattle.desk.specs.Standing.{stand, page_of, pageBy}
+use Rattle.desk.specs.Standing.{stand, page_of, page_by}
 use Rattle.desk.specs.Tests.{tests}
 use Rattle.desk.specs.Effects.{gone, effect}
-use Rattle.desk.specs.Changes.{learnedPlace, set_at, orFree, pagesAfter, placesAfter, changed}
+use Rattle.desk.specs.Changes.{learned_place, set_at, or_free, pages_after, places_after, changed}
 use Rattle.desk.specs.Allowed.{number}
-use Rattle.parts.specs.Replies.{doneBy, Serves}
+use Rattle.parts.specs.Replies.{done_by, Serves}
 use Rattle.refusals.proofs.Refusing.{paged, accepts}
-use Rattle.closing.specs.Leaving.{reservedFound}
+use Rattle.closing.specs.Leaving.{reserved_found}
 
-pub none-reserved : (k : Key) (lines : List PlaceLine) → isFound (findBy (placeSought (Learned k)) lines 0) ≡ true
-    → Nothing ≡ reservedFound k lines
-unfolding reservedFound
+pub none-reserved : (k : Key) (lines : List PlaceLine) → is_found (find_by (place_sought (Learned k)) lines 0) ≡ true
+    → Nothing ≡ reserved_found k lines
+unfolding reserved_found
 none-reserved k lines e = rw e
 
-pub one-reserved : (k : Key) (lines : List PlaceLine) → isFound (findBy (placeSought (Learned k)) lines 0) ≡ false
-    → findBy (placeSought (Used k)) lines 0 ≡ reservedFound k lines
-unfolding reservedFound
+pub one-reserved : (k : Key) (lines : List PlaceLine) → is_found (find_by (place_sought (Learned k)) lines 0) ≡ false
+    → find_by (place_sought (Used k)) lines 0 ≡ reserved_found k lines
+unfolding reserved_found
 one-reserved k lines e = rw e
 
 module _ (d : Desk) (k : Key) where
   -- both are tested alike
-  pub close-number : number bandOfCode d (closes k) ≡ refusal (paged d k true [])
+  pub close-number : number band_of_code d (closes k) ≡ refusal (paged d k true [])
   unfolding number tests refusal stand
   close-number = refl
 
-  pub abandon-number : number bandOfCode d (abandons k) ≡ refusal (paged d k true [])
+  pub abandon-number : number band_of_code d (abandons k) ≡ refusal (paged d k true [])
   unfolding number tests refusal stand
   abandon-number = refl
 
 -- the desk after a place was put and the page cleared in its slot
-module _ (p : Parts) (w : Whole p) (k : Key) (i : ℕ) (f : pageFound (deskOf p) k ≡ At i) (between next : Book)
+module _ (p : Parts) (w : Whole p) (k : Key) (i : ℕ) (f : page_found (desk_of p) k ≡ At i) (between next : Book)
     (working rows learned : List (List ℕ))
-    (cleared : PagePut between p.working p.rows i unusedPage next working rows) where
+    (cleared : PagePut between p.working p.rows i unused_page next working rows) where
   after : {found : Found} {place : Place} → PlacePut p.book p.learned found place between learned
-      → deskOf (parts_of next working rows learned)
-      ≡ record { pages = pagesAfter (deskOf p) k gone; places = set_at found place (deskOf p).places }
-  unfolding pagesAfter
+      → desk_of (parts_of next working rows learned)
+      ≡ record { pages = pages_after (desk_of p) k gone; places = set_at found place (desk_of p).places }
+  unfolding pages_after
   after q =
       ap₂ (λ (ps : List Page) (qs : List Place). record { pages = ps; places = qs })
-      (cleared.pages ∙ ap (λ (ls : List PageLine). set (pagesOf ls p.working p.rows) i unusedPage) q.pages
+      (cleared.pages ∙ ap (λ (ls : List PageLine). set (pages_of ls p.working p.rows) i unused_page) q.pages
       ∙ rw f)
       (ap (λ (ls : List PlaceLine). places_of ls learned) cleared.places ∙ q.places)
 
   -- ---- close: an open page of a lawful desk has its place
-  pub close-done : (x : Reply) (place : Found) → lawful (deskOf p) ≡ true → number bandOfCode (deskOf p) (closes k) ≡ 0
-      → place ≡ findBy (placeSought (Used k)) p.book.places 0
-      → PlacePut p.book p.learned place (learnedPlace k (record { entries = get_or p.working i [] }))
+  pub close-done : (x : Reply) (place : Found) → lawful (desk_of p) ≡ true → number band_of_code (desk_of p) (closes k) ≡ 0
+      → place ≡ find_by (place_sought (Used k)) p.book.places 0
+      → PlacePut p.book p.learned place (learned_place k (record { entries = get_or p.working i [] }))
       between learned
-      → x ≡ doneBy 0 0 0 next → Serves p (closes k) x.answer (parts_of x.book working rows learned) []
-  unfolding effect changed placesAfter stand learnedPlace
+      → x ≡ done_by 0 0 0 next → Serves p (closes k) x.answer (parts_of x.book working rows learned) []
+  unfolding effect changed places_after stand learned_place
   close-done x place l e g q a =
       accepts p (closes k) x next working rows learned [] (page-whole (place-whole w q) cleared) e a
       (after q ∙ ap₂ (λ (h : Found) (t : Table). record {
-        pages = pagesAfter (deskOf p) k gone;
-        places = set_at h (learnedPlace k t) (deskOf p).places;
+        pages = pages_after (desk_of p) k gone;
+        places = set_at h (learned_place k t) (desk_of p).places;
       }) put table) refl
     where
-      put : place ≡ orFree (placeFound (deskOf p) k) (freePlaceFound (deskOf p))
+      put : place ≡ or_free (place_found (desk_of p) k) (free_place_found (desk_of p))
       put =
           g ∙ sym (find-places p w (Used k))
-          ∙ ap (λ (b : Bool). cond b (placeFound (deskOf p) k) (freePlaceFound (deskOf p)))
-          (sym (page-placed (deskOf p) k i l f))
+          ∙ ap (λ (b : Bool). cond b (place_found (desk_of p) k) (free_place_found (desk_of p)))
+          (sym (page-placed (desk_of p) k i l f))
 
-      table : record { entries = get_or p.working i [] } ≡ (page_of (stand (deskOf p) k)).table
-      table = ap (λ (y : Page). y.table) (sym (page-in p w i)) ∙ ap (λ (h : Found). (or_else (pageBy (deskOf p) h)
-          noPage).table) (sym f)
+      table : record { entries = get_or p.working i [] } ≡ (page_of (stand (desk_of p) k)).table
+      table = ap (λ (y : Page). y.table) (sym (page-in p w i)) ∙ ap (λ (h : Found). (or_else (page_by (desk_of p) h)
+          no_page).table) (sym f)
 
   -- ---- abandon: a class with a table keeps it; a place that was only reserved is free
-  pub abandon-done : (x : Reply) (place : Found) → number bandOfCode (deskOf p) (abandons k) ≡ 0
-      → place ≡ reservedFound k p.book.places
-      → PlacePut p.book p.learned place freePlace between learned → x ≡ doneBy 0 0 0 next
+  pub abandon-done : (x : Reply) (place : Found) → number band_of_code (desk_of p) (abandons k) ≡ 0
+      → place ≡ reserved_found k p.book.places
+      → PlacePut p.book p.learned place free_place between learned → x ≡ done_by 0 0 0 next
       → Serves p (abandons k) x.answer (parts_of x.book working rows learned) []
-  unfolding effect changed placesAfter reservedFound
+  unfolding effect changed places_after reserved_found
   abandon-done x place e g q a =
       accepts p (abandons k) x next working rows learned [] (page-whole (place-whole w q) cleared) e a
-      (after q ∙ ap (λ (qs : List Place). record { pages = pagesAfter (deskOf p) k gone; places = qs })
-      (ap (λ (h : Found). set_at h freePlace (deskOf p).places) g
-      ∙ ap₂ (λ (t h : Found). set_at (cond (isFound t) Nothing h) freePlace (deskOf p).places)
+      (after q ∙ ap (λ (qs : List Place). record { pages = pages_after (desk_of p) k gone; places = qs })
+      (ap (λ (h : Found). set_at h free_place (desk_of p).places) g
+      ∙ ap₂ (λ (t h : Found). set_at (cond (is_found t) Nothing h) free_place (desk_of p).places)
       (sym (find-places p w (Learned k))) (sym
       (find-places p w (Used k)))
-      ∙ go (isFound (tableFound (deskOf p) k)))) refl
+      ∙ go (is_found (table_found (desk_of p) k)))) refl
     where
-      go : (b : Bool) → set_at (cond b Nothing (placeFound (deskOf p) k)) freePlace (deskOf p).places
-          ≡ cond b (deskOf p).places (set_at (placeFound (deskOf p) k) freePlace (deskOf p).places)
+      go : (b : Bool) → set_at (cond b Nothing (place_found (desk_of p) k)) free_place (desk_of p).places
+          ≡ cond b (desk_of p).places (set_at (place_found (desk_of p) k) free_place (desk_of p).places)
       go true = refl
       go false = refl

@@ -5,10 +5,10 @@ use Rattle.parts.specs.declared.PlaceLine.{PlaceLine}
 use Rattle.desk.specs.declared.Found.{Found}
 use Rattle.desk.specs.declared.Found.TheVariants.{Nothing}
 use Rattle.parts.specs.declared.Sought.TheVariants.{Used, Learned}
-use Rattle.desk.specs.Places.{findBy, isFound}
-use Rattle.parts.specs.Finding.{placeSought}
+use Rattle.desk.specs.Places.{find_by, is_found}
+use Rattle.parts.specs.Finding.{place_sought}
 
 -- the place that the key's page only reserves, by the lines of the book
-unfoldable pub reservedFound : Key → List PlaceLine → Found
-reservedFound k lines =
-    cond (isFound (findBy (placeSought (Learned k)) lines 0)) Nothing (findBy (placeSought (Used k)) lines 0)
+unfoldable pub reserved_found : Key → List PlaceLine → Found
+reserved_found k lines =
+    cond (is_found (find_by (place_sought (Learned k)) lines 0)) Nothing (find_by (place_sought (Used k)) lines 0)

@@ -1,11 +1,11 @@
 // The calls that leave a page: close and abandon. The book goes by value; the arrays are lent in place.
 ghost use Rattle.std.specs.Prelude.{◌≡◌, []};
-ghost use Rattle.limits.specs.Limits.{maxPlaces};
+ghost use Rattle.limits.specs.Limits.{max_places};
 ghost use Rattle.parts.specs.Parts.{parts_of, Sized};
-ghost use Rattle.parts.specs.Finding.{foundBelow};
+ghost use Rattle.parts.specs.Finding.{found_below};
 ghost use Rattle.desk.specs.Calls.{closes, abandons};
 ghost use Rattle.parts.specs.Replies.{Serves};
-ghost use Rattle.closing.specs.Leaving.{reservedFound};
+ghost use Rattle.closing.specs.Leaving.{reserved_found};
 
 use desk::{Found, Key};
 use estimate::Table;
@@ -44,7 +44,7 @@ pub fn close<'a>(
 
 // The place that the key's page only reserves.
 fn reserved_place(places: [PlaceLine; PLACES], key: Key) -> Found
-    ensures { (result ≡ reservedFound key places) × foundBelow maxPlaces result }
+    ensures { (result ≡ reserved_found key places) × found_below max_places result }
 {
     if parts::is_found(parts::find_place(places, 0, Sought::Learned(key))) {
         return Found::Nothing;

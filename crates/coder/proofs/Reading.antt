@@ -9,9 +9,9 @@ use mathlib.Core.List.{List, [], ◌∷◌}
 use lib.ListN.{length}
 use lib.Dec.{eqb}
 use Rattle.ground.proofs.Tests.{same?, if-eq, if-ne}
-use Rattle.coder.specs.Writing.{Writer, Model, Stage, step, after, opening, bandCode}
+use Rattle.coder.specs.Writing.{Writer, Model, Stage, step, after, opening, band_code}
 use Rattle.coder.proofs.Writing.{AllPels}
-use Rattle.coder.specs.Reading.{Reader, pelOf, readPels}
+use Rattle.coder.specs.Reading.{Reader, pel_of, read_pels}
 
 -- The laws that make a writer and a reader a coder. Ends w c: c is a code on which a run from w can end. Beside r w c:
 -- the reader of c stands where the writer does.
@@ -31,16 +31,16 @@ pub record IsCoder (W : Writer) (R : Reader) (Sized : ℕ → Type 0) : Type 1 w
   pub takes : (q : ℕ) (e : Bool) (w : W.State) (r : R.State) (c : List ℕ) → Sized q → Ready w → Ends (W.put q e w) c
       → Beside r w c → Beside (R.take q e r) (W.put q e w) c
 
-pel-same : (p s : ℕ) → p ≤ 1 → s ≤ 1 → pelOf s (eqb p s) ≡ p
+pel-same : (p s : ℕ) → p ≤ 1 → s ≤ 1 → pel_of s (eqb p s) ≡ p
 pel-same p s h k = go (same? p s)
   where
     go : (p ≡ s) ⊎ (p ≢ s) → cond (eqb p s) s (1 - s) ≡ p
     go (inl e) = if-eq p s s (1 - s) e ∙ sym e
     go (inr e) = if-ne p s s (1 - s) e ∙ omega arith
 
-pub pelOf-bit : (s : ℕ) (e : Bool) → s ≤ 1 → pelOf s e ≤ 1
-pelOf-bit s true h = h
-pelOf-bit s false h = omega arith
+pub pel_of-bit : (s : ℕ) (e : Bool) → s ≤ 1 → pel_of s e ≤ 1
+pel_of-bit s true h = h
+pel_of-bit s false h = omega arith
 
 module _ (A : Model) where
   -- ---- the round trip
@@ -66,8 +66,8 @@ module _ (A : Model) where
 
     -- one pel: the reader says it, and both go on
     record Told (p : ℕ) (s : Stage A W) (r : R.State) (c : List ℕ) : Type 0 where
-      pel : pelOf (A.sense s.model) (R.ask (A.size s.model) r) ≡ p
-      model : A.move s.model (pelOf (A.sense s.model) (R.ask (A.size s.model) r))
+      pel : pel_of (A.sense s.model) (R.ask (A.size s.model) r) ≡ p
+      model : A.move s.model (pel_of (A.sense s.model) (R.ask (A.size s.model) r))
           (R.moves (A.size s.model) (R.ask (A.size s.model) r) r) ≡ (step A W s p).model
       beside : K.Beside (R.take (A.size s.model) (R.ask (A.size s.model) r) r) (step A W s p).writer c
 
@@ -79,10 +79,10 @@ module _ (A : Model) where
         let q : ℕ = A.size m in
         let e : Bool = expects s p in
         let k : R.ask q r ≡ e = K.asks q e w r c (sized m) f i g in
-        let l : pelOf (A.sense m) e ≡ p = pel-same p (A.sense m) h (bit m) in
+        let l : pel_of (A.sense m) e ≡ p = pel-same p (A.sense m) h (bit m) in
         record {
-          pel = ap (pelOf (A.sense m)) k ∙ l;
-          model = ap (λ (b : Bool). A.move m (pelOf (A.sense m) b) (R.moves q b r)) k ∙ ap₂ (A.move m) l
+          pel = ap (pel_of (A.sense m)) k ∙ l;
+          model = ap (λ (b : Bool). A.move m (pel_of (A.sense m) b) (R.moves q b r)) k ∙ ap₂ (A.move m) l
               (K.shifts q e w r c (sized m) f i g);
           beside = subst (λ (b : Bool). K.Beside (R.take q b r) (step A W s p).writer c) (sym k)
               (K.takes q e w r c (sized m) f i g);
@@ -90,24 +90,24 @@ module _ (A : Model) where
 
     reads : (ps : List ℕ) (s : Stage A W) (r : R.State) (c : List ℕ) → AllPels ps → K.Ready s.writer
         → K.Ends (after A W s ps).writer c → K.Beside r s.writer c
-        → readPels A R (length ps) s.model r ≡ ps
-    unfolding after readPels
+        → read_pels A R (length ps) s.model r ≡ ps
+    unfolding after read_pels
     reads [] s r c a f i g = refl
     reads (p ∷ ps) s r c a f i g =
         let f₁ : K.Ready (step A W s p).writer = K.ready-put (A.size s.model) (expects s p) s.writer
         (sized s.model) f in
         let t : Told p s r c = tells p s r c a.0 f (ends-before ps (step A W s p) c f₁ i) g in
-        ap₂ (λ (y : ℕ) (n : A.State). y ∷ readPels A R (length ps) n
+        ap₂ (λ (y : ℕ) (n : A.State). y ∷ read_pels A R (length ps) n
         (R.take (A.size s.model) (R.ask (A.size s.model) r) r)) t.pel t.model
         ∙ ap (λ (l : List ℕ). p ∷ l)
         (reads ps (step A W s p) (R.take (A.size s.model) (R.ask (A.size s.model) r) r) c a.1 f₁ i
         t.beside)
 
     -- what a band was written as is read as that band
-    pub read-band : (m : A.State) (ps : List ℕ) → AllPels ps → readPels A R (length ps) m
-        (R.start (bandCode A W m ps)) ≡ ps
+    pub read-band : (m : A.State) (ps : List ℕ) → AllPels ps → read_pels A R (length ps) m
+        (R.start (band_code A W m ps)) ≡ ps
     read-band m ps a =
-        let c : List ℕ = bandCode A W m ps in
+        let c : List ℕ = band_code A W m ps in
         let i : K.Ends (after A W (opening A W m) ps).writer c = K.ends-here (after A W (opening A W m) ps).writer
         (ready-after ps (opening A W m) K.ready-start) in
         reads ps (opening A W m) (R.start c) c a K.ready-start i
@@ -115,12 +115,12 @@ module _ (A : Model) where
 
     -- two bands of one length never have one code
     pub no-two-bands : (m : A.State) (ps qs : List ℕ) → AllPels ps → AllPels qs → length ps ≡ length qs
-        → bandCode A W m ps ≡ bandCode A W m qs → ps ≡ qs
+        → band_code A W m ps ≡ band_code A W m qs → ps ≡ qs
     no-two-bands m ps qs a b l e =
-        sym (read-band m ps a) ∙ ap₂ (λ (n : ℕ) (c : List ℕ). readPels A R n m (R.start c)) l e ∙ read-band m qs b
+        sym (read-band m ps a) ∙ ap₂ (λ (n : ℕ) (c : List ℕ). read_pels A R n m (R.start c)) l e ∙ read-band m qs b
 
     -- where some band was written as c, the band that is read was
-    pub written_read : (m : A.State) (n : ℕ) (c ps : List ℕ) → AllPels ps → length ps ≡ n → bandCode A W m ps ≡ c
-        → readPels A R n m (R.start c) ≡ ps
+    pub written_read : (m : A.State) (n : ℕ) (c ps : List ℕ) → AllPels ps → length ps ≡ n → band_code A W m ps ≡ c
+        → read_pels A R n m (R.start c) ≡ ps
     written_read m n c ps a l e =
-        ap₂ (λ (k : ℕ) (d : List ℕ). readPels A R k m (R.start d)) (sym l) (sym e) ∙ read-band m ps a
+        ap₂ (λ (k : ℕ) (d : List ℕ). read_pels A R k m (R.start d)) (sym l) (sym e) ∙ read-band m ps a

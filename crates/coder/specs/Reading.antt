@@ -11,15 +11,15 @@ pub record Reader : Type 1 where
   pub moves : ℕ → Bool → State → Bool
 
 -- the pel that is coded as e
-abbrev pub pelOf : ℕ → Bool → ℕ
-pelOf s e = cond e s (1 - s)
+abbrev pub pel_of : ℕ → Bool → ℕ
+pel_of s e = cond e s (1 - s)
 
 module _ (A : Model) where
   -- the n pels that a reader reads, from a model and where it stands
   module _ (R : Reader) where
-    unfoldable pub readPels : ℕ → A.State → R.State → List ℕ
-    readPels zero m r = []
-    readPels (suc n) m r =
+    unfoldable pub read_pels : ℕ → A.State → R.State → List ℕ
+    read_pels zero m r = []
+    read_pels (suc n) m r =
         let e : Bool = R.ask (A.size m) r in
-        let p : ℕ = pelOf (A.sense m) e in
-        p ∷ readPels n (A.move m p (R.moves (A.size m) e r)) (R.take (A.size m) e r)
+        let p : ℕ = pel_of (A.sense m) e in
+        p ∷ read_pels n (A.move m p (R.moves (A.size m) e r)) (R.take (A.size m) e r)

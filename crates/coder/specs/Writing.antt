@@ -53,17 +53,17 @@ module _ (A : Model) (W : Writer) where
   opening m = record { model = m; writer = W.start; revisits = 0 }
 
   -- the code of a band of these pels
-  abbrev pub bandCode : A.State → List ℕ → List ℕ
-  bandCode m ps = W.code (after (opening m) ps).writer
+  abbrev pub band_code : A.State → List ℕ → List ℕ
+  band_code m ps = W.code (after (opening m) ps).writer
 
   -- the S of a band of these pels: its shifts, counted
-  abbrev pub bandCount : A.State → List ℕ → ℕ
-  bandCount m ps = W.count (after (opening m) ps).writer
+  abbrev pub band_count : A.State → List ℕ → ℕ
+  band_count m ps = W.count (after (opening m) ps).writer
 
   -- how many of these pels were revisited
-  abbrev pub bandRevisits : A.State → List ℕ → ℕ
-  bandRevisits m ps = (after (opening m) ps).revisits
+  abbrev pub band_revisits : A.State → List ℕ → ℕ
+  band_revisits m ps = (after (opening m) ps).revisits
 
   -- what is learned after a band of these pels
-  abbrev pub bandModel : A.State → List ℕ → A.State
-  bandModel m ps = (after (opening m) ps).model
+  abbrev pub band_model : A.State → List ℕ → A.State
+  band_model m ps = (after (opening m) ps).model

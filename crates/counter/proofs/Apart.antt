@@ -35,7 +35,7 @@ use denote.Struct.Struct.{Struct}
 use denote.Struct.Members.{Member, rows_of, parts_at}
 use denote.Struct.Parts.{shape_of, PartsBack, Struct-parts}
 use denote.Struct.Laws as LL
-use Rattle.limits.specs.Limits.{maxPages, maxPlaces, contexts, lastBytes}
+use Rattle.limits.specs.Limits.{max_pages, max_places, contexts, last_bytes}
 use Rattle.parts.specs.Parts.{Sized}
 use Rattle.parts.specs.declared.Book.{Book}
 use Rattle.parts.specs.declared.Parts.{Parts}
@@ -48,29 +48,29 @@ use Rattle.parts.specs.contracts.Reply as R
 use Rattle.parts.proofs.Reply.TheLaws as R'
 use Rattle.desk.specs.contracts.Answer as N
 use Rattle.desk.proofs.Answer.TheLaws as N'
-use Rattle.counter.specs.Layout.{workingAt, rows_at, learnedAt, deskBytes}
+use Rattle.counter.specs.Layout.{working_at, rows_at, learned_at, desk_bytes}
 
 -- ---- the arrays: their types, here and in MIR
 abbrev pub Working : RattleType
-Working = Array (Array u8 contexts) maxPages
+Working = Array (Array u8 contexts) max_pages
 
 abbrev pub Rows : RattleType
-Rows = Array (Array u8 lastBytes) maxPages
+Rows = Array (Array u8 last_bytes) max_pages
 
 abbrev pub Learned : RattleType
-Learned = Array (Array u8 contexts) maxPlaces
+Learned = Array (Array u8 contexts) max_places
 
-abbrev pub bytesTy : ℕ → ℕ → Ty
-bytesTy n m = ty_array (ty_array (ty_int w8) n) m
+abbrev pub bytes_ty : ℕ → ℕ → Ty
+bytes_ty n m = ty_array (ty_array (ty_int w8) n) m
 
-abbrev pub workingTy : Ty
-workingTy = bytesTy contexts maxPages
+abbrev pub working_ty : Ty
+working_ty = bytes_ty contexts max_pages
 
-abbrev pub rowsTy : Ty
-rowsTy = bytesTy lastBytes maxPages
+abbrev pub rows_ty : Ty
+rows_ty = bytes_ty last_bytes max_pages
 
-abbrev pub learnedTy : Ty
-learnedTy = bytesTy contexts maxPlaces
+abbrev pub learned_ty : Ty
+learned_ty = bytes_ty contexts max_places
 
 abbrev pub Bytes : Type 0
 Bytes = List (List ℕ)
@@ -78,23 +78,23 @@ Bytes = List (List ℕ)
 abbrev members : List Member
 members =
     record { row = (B.the_field).row; ty = B'.mir }
-    ∷ record { row = Working; ty = workingTy }
-    ∷ record { row = Rows; ty = rowsTy }
-    ∷ record { row = Learned; ty = learnedTy }
+    ∷ record { row = Working; ty = working_ty }
+    ∷ record { row = Rows; ty = rows_ty }
+    ∷ record { row = Learned; ty = learned_ty }
     ∷ []
 
 -- the desk has as many bytes as its layout says
-pub desk-bytes : size T'.mir ≡ deskBytes
+pub desk-bytes : size T'.mir ≡ desk_bytes
 desk-bytes = refl
 
 -- an author's list is the row's
-same_bytes : (xs : List ℕ) → map (λ v. v) xs ≡ xs
-same_bytes [] = refl
-same_bytes (x ∷ xs) = ap (λ (ys : List ℕ). x ∷ ys) (same_bytes xs)
+same_bytes_lem : (xs : List ℕ) → map (λ v. v) xs ≡ xs
+same_bytes_lem [] = refl
+same_bytes_lem (x ∷ xs) = ap (λ (ys : List ℕ). x ∷ ys) (same_bytes_lem xs)
 
 same-arrays : (xs : Bytes) → map (map (λ (v : ℕ). v)) xs ≡ xs
 same-arrays [] = refl
-same-arrays (x ∷ xs) = λ i. same_bytes x i ∷ same-arrays xs i
+same-arrays (x ∷ xs) = λ i. same_bytes_lem x i ∷ same-arrays xs i
 
 -- the names under which the arrays are lent
 abbrev pub Names : Type 0
@@ -129,13 +129,13 @@ module _ (b o : ℕ) where
   BookPart d = part_at B.the_row full_share d b (o + 0)
 
   abbrev WorkingAt : Bytes → Fml
-  WorkingAt xs = part_at Working full_share xs b (o + workingAt)
+  WorkingAt xs = part_at Working full_share xs b (o + working_at)
 
   abbrev RowsAt : Bytes → Fml
   RowsAt xs = part_at Rows full_share xs b (o + rows_at)
 
   abbrev LearnedAt : Bytes → Fml
-  LearnedAt xs = part_at Learned full_share xs b (o + learnedAt)
+  LearnedAt xs = part_at Learned full_share xs b (o + learned_at)
 
   abbrev pub DeskAt : Parts → Fml
   DeskAt d = part_at T.the_row full_share d b o
@@ -169,12 +169,12 @@ module _ (b o : ℕ) where
     Arrays xs ys zs = three (WorkingAt xs) (RowsAt ys) (LearnedAt zs)
 
     abbrev pub Refs : ℕ → Names → Bytes → Bytes → Bytes → SProp 𝓤
-    Refs α δ xs ys zs = three (ref Working α workingAt δ.0 xs) (ref Rows α rows_at δ.1.0 ys)
-        (ref Learned α learnedAt δ.1.1 zs)
+    Refs α δ xs ys zs = three (ref Working α working_at δ.0 xs) (ref Rows α rows_at δ.1.0 ys)
+        (ref Learned α learned_at δ.1.1 zs)
 
     abbrev pub Lents : ℕ → Names → SProp 𝓤
     Lents α δ =
-        three (lent Working α workingAt δ.0) (lent Rows α rows_at δ.1.0) (lent Learned α learnedAt δ.1.1)
+        three (lent Working α working_at δ.0) (lent Rows α rows_at δ.1.0) (lent Learned α learned_at δ.1.1)
 
     abbrev pub Lasts : Names → Bytes → Bytes → Bytes → SProp 𝓤
     Lasts δ xs ys zs = three (res Working δ.0 xs) (res Rows δ.1.0 ys) (res Learned δ.1.1 zs)
@@ -246,12 +246,12 @@ module _ (b o : ℕ) where
           rewrite ! 0 (λ (xs : Bytes). ‵ (LearnedAt xs)) (same-arrays d.learned) refl $
           rewrite ! 1 (λ (xs : Bytes). ‵ (RowsAt xs)) (same-arrays d.rows) refl $
           rewrite ! 2 (λ (xs : Bytes). ‵ (WorkingAt xs)) (same-arrays d.working) refl $
-          use1 𝓛 (given (length d.learned ≡ maxPlaces) (‵ (LearnedAt d.learned)))
-          (sized (Array u8 contexts) maxPlaces d.learned (o + learnedAt)) $ learn ! (λ l₃. move ! (1 ∷ []) $
-          use1 𝓛 (given (length d.rows ≡ maxPages) (‵ (RowsAt d.rows)))
-          (sized (Array u8 lastBytes) maxPages d.rows (o + rows_at)) $ learn ! (λ l₂. move ! (2 ∷ []) $
-          use1 𝓛 (given (length d.working ≡ maxPages) (‵ (WorkingAt d.working)))
-          (sized (Array u8 contexts) maxPages d.working (o + workingAt))
+          use1 𝓛 (given (length d.learned ≡ max_places) (‵ (LearnedAt d.learned)))
+          (sized (Array u8 contexts) max_places d.learned (o + learned_at)) $ learn ! (λ l₃. move ! (1 ∷ []) $
+          use1 𝓛 (given (length d.rows ≡ max_pages) (‵ (RowsAt d.rows)))
+          (sized (Array u8 last_bytes) max_pages d.rows (o + rows_at)) $ learn ! (λ l₂. move ! (2 ∷ []) $
+          use1 𝓛 (given (length d.working ≡ max_pages) (‵ (WorkingAt d.working)))
+          (sized (Array u8 contexts) max_pages d.working (o + working_at))
           $ learn ! (λ l₁. move ! (3 ∷ 0 ∷ 1 ∷ 2 ∷ []) $
           check ! (is, (l₁, l₂, l₃)) $ move ! (1 ∷ 2 ∷ 3 ∷ []) $ group ! 3 $ move ! (1 ∷ 0 ∷ []) $ done !))))
 
@@ -275,14 +275,14 @@ module _ (b o : ℕ) where
           → ent 𝓤 (Arrays xs ys zs) (H.⇛ (ex 𝓤 (λ (δ : Names). sep 𝓤 (Refs α δ xs ys zs) (Lents α δ))))
       lent_out α xs ys zs =
           qed 𝓛 ((‵ (WorkingAt xs) ⊛ ‵ (RowsAt ys) ⊛ ‵ (LearnedAt zs)) ∷ []) ∵ updating ! $ split3 ! $
-          use1 𝓛 (later (some (λ (δ : GName). ‵ (ref Working α workingAt δ xs) ⊛ ‵ (lent Working α workingAt δ))))
-          (lends_ref 𝓛 Working (named 0) (α ∷ []) xs b (o + workingAt)) $ await ! tt
+          use1 𝓛 (later (some (λ (δ : GName). ‵ (ref Working α working_at δ xs) ⊛ ‵ (lent Working α working_at δ))))
+          (lends_ref 𝓛 Working (named 0) (α ∷ []) xs b (o + working_at)) $ await ! tt
           $ pick ! (λ δ₁. split ! $ move ! (2 ∷ []) $
           use1 𝓛 (later (some (λ (δ : GName). ‵ (ref Rows α rows_at δ ys) ⊛ ‵ (lent Rows α rows_at δ))))
           (lends_ref 𝓛 Rows (named 0) (α ∷ []) ys b (o + rows_at)) $ await ! tt
           $ pick ! (λ δ₂. split ! $ move ! (4 ∷ []) $
-          use1 𝓛 (later (some (λ (δ : GName). ‵ (ref Learned α learnedAt δ zs) ⊛ ‵ (lent Learned α learnedAt δ))))
-          (lends_ref 𝓛 Learned (named 0) (α ∷ []) zs b (o + learnedAt)) $ await ! tt $ pick ! (λ δ₃. split ! $
+          use1 𝓛 (later (some (λ (δ : GName). ‵ (ref Learned α learned_at δ zs) ⊛ ‵ (lent Learned α learned_at δ))))
+          (lends_ref 𝓛 Learned (named 0) (α ∷ []) zs b (o + learned_at)) $ await ! tt $ pick ! (λ δ₃. split ! $
           -- [ref₃; lent₃; ref₂; lent₂; ref₁; lent₁]
           at_once ! $ show ! (λ (δ : Names). sep 𝓤 (Refs α δ xs ys zs) (Lents α δ)) (δ₁, (δ₂, δ₃)) $
           move ! (4 ∷ 2 ∷ 0 ∷ []) $ group ! 3 $ move ! (0 ∷ 3 ∷ 2 ∷ 1 ∷ []) $ done !)))
@@ -291,20 +291,20 @@ module _ (b o : ℕ) where
           → ent 𝓤 (sep 𝓤 (A.lft (α ∷ []) full_share) (sep 𝓤 (Lents α δ) (Lasts δ xs ys zs))) (H.⇛ (Arrays xs ys zs))
       back_in α δ xs ys zs =
           qed 𝓛 (‵ (flft (α ∷ []) full_share)
-          ∷ (‵ (lent Working α workingAt δ.0) ⊛ ‵ (lent Rows α rows_at δ.1.0)
-          ⊛ ‵ (lent Learned α learnedAt δ.1.1))
+          ∷ (‵ (lent Working α working_at δ.0) ⊛ ‵ (lent Rows α rows_at δ.1.0)
+          ⊛ ‵ (lent Learned α learned_at δ.1.1))
           ∷ (‵ (res Working δ.0 xs) ⊛ ‵ (res Rows δ.1.0 ys) ⊛ ‵ (res Learned δ.1.1 zs)) ∷ []) ∵ updating ! $
           lft_end ! tt $ use1 𝓛 (‵ (fdead (α ∷ [])) ⊛ ‵ (fdead (α ∷ []))) (𝓛.lfts.dead_dup (α ∷ [])) $ split ! $
           use1 𝓛 (‵ (fdead (α ∷ [])) ⊛ ‵ (fdead (α ∷ []))) (𝓛.lfts.dead_dup (α ∷ [])) $ split ! $
           move ! (3 ∷ []) $ split3 ! $ move ! (6 ∷ []) $ split3 ! $
           -- [res₁; res₂; res₃; lent₁ at 3; lent₂; lent₃; dead at 6; dead; dead]
           move ! (6 ∷ 5 ∷ 2 ∷ []) $
-          use3 𝓛 (later (‵ (LearnedAt zs))) (ref_back 𝓛 Learned (α ∷ []) δ.1.1 zs b (o + learnedAt))
+          use3 𝓛 (later (‵ (LearnedAt zs))) (ref_back 𝓛 Learned (α ∷ []) δ.1.1 zs b (o + learned_at))
           $ await ! tt $
           -- [learned; res₁; res₂; lent₁ at 3; lent₂; dead at 5; dead]
           move ! (5 ∷ 4 ∷ 2 ∷ []) $
           use3 𝓛 (later (‵ (RowsAt ys))) (ref_back 𝓛 Rows (α ∷ []) δ.1.0 ys b (o + rows_at)) $ await ! tt $
           -- [rows; learned; res₁; lent₁; dead]
           move ! (4 ∷ 3 ∷ 2 ∷ []) $
-          use3 𝓛 (later (‵ (WorkingAt xs))) (ref_back 𝓛 Working (α ∷ []) δ.0 xs b (o + workingAt))
+          use3 𝓛 (later (‵ (WorkingAt xs))) (ref_back 𝓛 Working (α ∷ []) δ.0 xs b (o + working_at))
           $ await ! tt $ at_once ! $ done !

@@ -49,7 +49,7 @@ use denote.Triple.Walked.{says, Stays, stay_ref, stay_dropped, gave_slice, walk_
 use denote.Triple.Walked.{Goes-gave_slice}
 use denote.Triple.Walked.{Walks, ends_at, walked, walk_Meets}
 use denote.Exit.{yes}
-use Rattle.limits.specs.Limits.{maxPages, maxPlaces, contexts, lastBytes}
+use Rattle.limits.specs.Limits.{max_pages, max_places, contexts, last_bytes}
 use Rattle.parts.specs.Parts.{parts_of, Sized}
 use Rattle.desk.specs.declared.Answer.{Answer}
 use Rattle.parts.specs.declared.Book.{Book}
@@ -63,8 +63,8 @@ use Rattle.parts.specs.contracts.Reply as R
 use Rattle.parts.proofs.Reply.TheLaws as R'
 use Rattle.desk.specs.contracts.Answer as N
 use Rattle.desk.proofs.Answer.TheLaws as N'
-use Rattle.counter.specs.Layout.{workingAt, rows_at, learnedAt}
-use Rattle.counter.proofs.Apart.{Working, Rows, Learned, workingTy, rowsTy, learnedTy, Bytes, Names, bv, nv}
+use Rattle.counter.specs.Layout.{working_at, rows_at, learned_at}
+use Rattle.counter.proofs.Apart.{Working, Rows, Learned, working_ty, rows_ty, learned_ty, Bytes, Names, bv, nv}
 use Rattle.counter.proofs.Apart.{answer-is, book-is}
 use Rattle.counter.proofs.Apart.{answer-makes, Fits, BookAt, DeskAt, Arrays, ref, Refs, Lents, Back, apart}
 use Rattle.counter.proofs.Apart.{together, lent_out, back_in}
@@ -85,9 +85,9 @@ template g = record {
       local (slice_ty (ty_ref (named 2) mut (ty_int w8))) value_local ∷
       local R'.mir value_local ∷
       local B'.mir value_local ∷
-      local (ty_ref erased mut workingTy) value_local ∷
-      local (ty_ref erased mut rowsTy) value_local ∷
-      local (ty_ref erased mut learnedTy) value_local ∷
+      local (ty_ref erased mut working_ty) value_local ∷
+      local (ty_ref erased mut rows_ty) value_local ∷
+      local (ty_ref erased mut learned_ty) value_local ∷
       local (ty_ref erased mut (ty_int w8)) value_local ∷
       local (slice_ty (ty_ref erased mut (ty_int w8))) value_local ∷ [];
   body =
@@ -109,13 +109,13 @@ template g = record {
 abbrev bytes : ℕ → ℕ → Slot 3
 bytes n m = RefMutOf (0 ∷ []) tt (ArrayOf (ArrayOf (plain (λ _. u8)) (λ _. tt) n) (λ _. tt) m) (λ _. tt)
 
-abbrev gEnded : Ended
-gEnded = record {
+abbrev g_ended : Ended
+g_ended = record {
   signature = record {
     lifetimes = 3;
     outlives = [];
     params =
-        plain (λ _. B.the_row) ∷ bytes contexts maxPages ∷ bytes lastBytes maxPages ∷ bytes contexts maxPlaces ∷
+        plain (λ _. B.the_row) ∷ bytes contexts max_pages ∷ bytes last_bytes max_pages ∷ bytes contexts max_places ∷
         plain (λ _. u64) ∷ plain (λ _. u64) ∷ plain (λ _. u64) ∷ SliceRefOf (1 ∷ []) tt (plain (λ _. u8)) (λ _. tt) ∷
         SliceRefMutOf (2 ∷ []) tt (plain (λ _. u8)) (λ _. tt) ∷ [];
     result = plain (λ _. R.the_row);
@@ -123,8 +123,8 @@ gEnded = record {
   kept = (yes, (yes, (yes, (yes, (yes, (yes, (yes, (yes, (yes, tt)))))))));
 }
 
-abbrev fEnded : Ended
-fEnded = record {
+abbrev f_ended : Ended
+f_ended = record {
   signature = record {
     lifetimes = 3;
     outlives = [];
@@ -141,8 +141,8 @@ abbrev Relation : Type 1
 Relation = Parts → ℕ → ℕ → ℕ → List ℕ → List ℕ → Answer → Parts → List ℕ → Type 0
 
 module _ (Does : Relation) {M : Type 1} (𝓤 : Ura M) where
-  abbrev gClauses : Clauses 𝓤 gEnded
-  gClauses κs a = record {
+  abbrev g_clauses : Clauses 𝓤 g_ended
+  g_clauses κs a = record {
     ghost = Unit {0};
     requires = λ _. fact 𝓤 (Sized a.1.0.now a.1.1.0.now a.1.1.1.0.now);
     ensures = λ _ r e. fact 𝓤
@@ -153,8 +153,8 @@ module _ (Does : Relation) {M : Type 1} (𝓤 : Ura M) where
         e.1.1.1.1.1.1.1.1.0.now);
   }
 
-  abbrev fClauses : Clauses 𝓤 fEnded
-  fClauses κs a = record {
+  abbrev f_clauses : Clauses 𝓤 f_ended
+  f_clauses κs a = record {
     ghost = Unit {0};
     requires = λ _. emp 𝓤;
     ensures = λ _ r e. fact 𝓤 (Does a.0.now a.1.0 a.1.1.0 a.1.1.1.0 a.1.1.1.1.0.now
@@ -162,9 +162,9 @@ module _ (Does : Relation) {M : Type 1} (𝓤 : Ura M) where
   }
 
   abbrev pub Callee : (𝓛 : Logic 𝓤) → Contract 𝓤
-  Callee 𝓛 = triple_of 𝓛 gEnded.signature (closing 𝓛 gEnded gClauses)
+  Callee 𝓛 = triple_of 𝓛 g_ended.signature (closing 𝓛 g_ended g_clauses)
 
-abbrev stayed : Stays fEnded.signature.params fEnded.kept
+abbrev stayed : Stays f_ended.signature.params f_ended.kept
 stayed = (
   stay_ref (0 ∷ []) tt (plain (λ _. T.the_row)),
   (
@@ -215,8 +215,8 @@ module _ (g : Name) (Does : Relation) {M : Type 1} {𝓤 : Ura M} (𝓛 : Logic 
     Rest = owns (u64 ∷ u64 ∷ u64 ∷ ShrSlice (named 1) κ₁ u8 ∷ MutSlice (named 2) κ₂ u8 ∷ []) rest rest-vals
 
     abbrev Post : Val → SProp 𝓤
-    Post = (walk_of 𝓛 fEnded stayed
-        (fClauses Does 𝓤)).post (((κ, (κ₁, (κ₂, tt))), (q, (q₁, (q₂, tt))), tt, x, at), tt)
+    Post = (walk_of 𝓛 f_ended stayed
+        (f_clauses Does 𝓤)).post (((κ, (κ₁, (κ₂, tt))), (q, (q₁, (q₂, tt))), tt, x, at), tt)
 
     exits : (r : Reply) (d : Parts) (zs : List ℕ) → Does h a₁ a₂ a₃ a₄.now a₅.now r.answer d zs →
         length zs ≡ length a₅.now → Is N.the_row r.answer (nv r ∷ [])
@@ -225,8 +225,8 @@ module _ (g : Name) (Does : Relation) {M : Type 1} {𝓤 : Ura M} (𝓛 : Logic 
     exits r d zs e l is =
         qed 𝓛 (‵ (fobs γ ((T.the_row).coded.code d)) ∷ ‵ (fbor κ (Body (mem T.the_row) b o γ)) ∷ ‵ (flft κ q) ∷
         (‵ (flft κ₁ q₁) ⊛ ‵ (flft κ₂ q₂) ⊛ ‵ ftrue) ∷ ‵ (finally u8 a₅.name zs) ∷ []) ∵
-        suffices ! _ (ends_at 𝓛 fEnded stayed
-        (fClauses Does 𝓤) (((κ, (κ₁, (κ₂, tt))), (q, (q₁, (q₂, tt))), tt, x, at), tt) (nv r) r.answer
+        suffices ! _ (ends_at 𝓛 f_ended stayed
+        (f_clauses Does 𝓤) (((κ, (κ₁, (κ₂, tt))), (q, (q₁, (q₂, tt))), tt, x, at), tt) (nv r) r.answer
         (d, (tt, (tt, (tt, (tt, (zs, tt)))))) (tt, (tt, (tt, (tt, (tt, (l, tt))))))) $ says ! e $
         move ! (2 ∷ 3 ∷ []) $ join ! $ frame ! $ feq_i ! (List Val) (vptr b o ∷ []) (vptr b o ∷ []) refl $ fjoin3 ! $
         nothing ! $ move ! (2 ∷ 0 ∷ []) $ fjoin ! $ nothing ! $ fjoin ! $ nothing ! $ fjoin ! $ nothing ! $ fjoin ! $
@@ -243,10 +243,10 @@ module _ (g : Name) (Does : Relation) {M : Type 1} {𝓤 : Ura M} (𝓛 : Logic 
       gx = (
         h.book,
         (
-          lent workingAt δ.0 h.working,
+          lent working_at δ.0 h.working,
           (
             lent rows_at δ.1.0 h.rows,
-            (lent learnedAt δ.1.1 h.learned, rest),
+            (lent learned_at δ.1.1 h.learned, rest),
           ),
         ),
       )
@@ -256,10 +256,10 @@ module _ (g : Name) (Does : Relation) {M : Type 1} {𝓤 : Ura M} (𝓛 : Logic 
       at_g = (
         bv h.book ∷ [],
         (
-          vptr b (o + workingAt) ∷ [],
+          vptr b (o + working_at) ∷ [],
           (
             vptr b (o + rows_at) ∷ [],
-            (vptr b (o + learnedAt) ∷ [], rest-vals),
+            (vptr b (o + learned_at) ∷ [], rest-vals),
           ),
         ),
       )
@@ -273,8 +273,8 @@ module _ (g : Name) (Does : Relation) {M : Type 1} {𝓤 : Ura M} (𝓛 : Logic 
           ((Callee Does 𝓤 𝓛).pre to-g)
       goes-g is =
           qed 𝓛 (‵ (flft (α ∷ []) full_share)
-          ∷ (‵ (ref b o Working α workingAt δ.0 h.working) ⊛ ‵ (ref b o Rows α rows_at δ.1.0 h.rows)
-          ⊛ ‵ (ref b o Learned α learnedAt δ.1.1 h.learned)) ∷ (‵ (flft κ₁ q₁) ⊛ ‵ (flft κ₂ q₂) ⊛ ‵ ftrue) ∷
+          ∷ (‵ (ref b o Working α working_at δ.0 h.working) ⊛ ‵ (ref b o Rows α rows_at δ.1.0 h.rows)
+          ⊛ ‵ (ref b o Learned α learned_at δ.1.1 h.learned)) ∷ (‵ (flft κ₁ q₁) ⊛ ‵ (flft κ₂ q₂) ⊛ ‵ ftrue) ∷
           ‵ Rest ∷ []) ∵
           says ! is.1 $ move ! (0 ∷ 2 ∷ []) $ join ! $ move ! (1 ∷ []) $ split3 ! $
           move ! (2 ∷ 4 ∷ []) $ fjoin ! $ move ! (2 ∷ 0 ∷ []) $ fjoin ! $ move ! (1 ∷ 0 ∷ []) $ fjoin ! $
@@ -294,7 +294,7 @@ module _ (g : Name) (Does : Relation) {M : Type 1} {𝓤 : Ura M} (𝓛 : Logic 
 
     module _ (C : Calls 𝓤 H) (Λ : Loops 𝓤 H) (fm : FmC 𝓤 H 𝓛.laws C) (known : Triple 𝓤 (C g)
         (Callee Does 𝓤 𝓛)) where
-      walk : ent 𝓤 (on_entry 𝓛 fEnded.signature (κ, (κ₁, (κ₂, tt))) (q, (q₁, (q₂, tt))) x at)
+      walk : ent 𝓤 (on_entry 𝓛 f_ended.signature (κ, (κ₁, (κ₂, tt))) (q, (q₁, (q₂, tt))) x at)
           (WpFn 𝓤 H C Λ (template g) (vptr b o ∷ vint w64 a₁ ∷ vint w64 a₂ ∷ vint w64 a₃ ∷
           slice_val a₄.ref_ptr (length a₄.now) ∷ slice_val a₅.ref_ptr (length a₅.now) ∷ []) Post)
       walk =
@@ -357,10 +357,10 @@ module _ (g : Name) (Does : Relation) {M : Type 1} {𝓤 : Ura M} (𝓛 : Logic 
           (no_more !)))))))))) (λ v.
           use1 𝓛 (later (some (λ (r : Reply). ((‵ (flft (α ∷ []) full_share) ⊛ ‵ (flft κ₁ q₁) ⊛ ‵ (flft κ₂ q₂) ⊛
           ‵ ftrue) ⊛ ‵ ((R.the_row).own_val r (v ∷ [])))
-          ⊛ raw (ensured 𝓛 gEnded (gClauses Does 𝓤) (α ∷ [], (κ₁, (κ₂, tt))) (gx α δ) tt r)))) (id⊢ 𝓤 _) $
+          ⊛ raw (ensured 𝓛 g_ended (g_clauses Does 𝓤) (α ∷ [], (κ₁, (κ₂, tt))) (gx α δ) tt r)))) (id⊢ 𝓤 _) $
           await ! tt $
           pick ! (λ r. split ! $ move ! (1 ∷ []) $
-          use1 𝓛 (some (λ (zs : Last). ‵ (lasts gEnded (α ∷ [], (κ₁, (κ₂, tt))) (gx α δ) zs) ⊛
+          use1 𝓛 (some (λ (zs : Last). ‵ (lasts g_ended (α ∷ [], (κ₁, (κ₂, tt))) (gx α δ) zs) ⊛
           raw (fact 𝓤 (Said r zs)))) (id⊢ 𝓤 _) $ pick ! (λ zs.
           split ! $ move ! (1 ∷ []) $ heard ! (Said r zs) (λ e. fsplit ! $ drop ! $
           fsplit ! $ move ! (1 ∷ []) $ fsplit ! $ move ! (1 ∷ []) $ fsplit ! $ move ! (1 ∷ []) $ fsplit ! $ drop ! $
@@ -402,9 +402,9 @@ module _ (g : Name) (Does : Relation) {M : Type 1} {𝓤 : Ura M} (𝓛 : Logic 
           by ! (exits r (after r zs) zs.1.1.1.1.1.1.1.1.0 e l (answer-is r _ is)))))))))))))))))))))))))
 
   walks : (C : Calls 𝓤 H) (Λ : Loops 𝓤 H) → FmC 𝓤 H 𝓛.laws C → Triple 𝓤 (C g) (Callee Does 𝓤 𝓛)
-      → Walks 𝓛 fEnded stayed (WpFn 𝓤 H C Λ (template g)) (fClauses Does 𝓤)
+      → Walks 𝓛 f_ended stayed (WpFn 𝓤 H C Λ (template g)) (f_clauses Does 𝓤)
   walks C Λ fm known =
-      walked 𝓛 fEnded stayed (fClauses Does 𝓤) (WpFn 𝓤 H C Λ (template g))
+      walked 𝓛 f_ended stayed (f_clauses Does 𝓤) (WpFn 𝓤 H C Λ (template g))
       (λ κs. (shr_vals, (uint_vals w64, (uint_vals w64, (uint_vals w64, (shr_slice_vals, (shr_slice_vals, tt)))))))
       (λ κs. (
         mut_Tells (named 0) κs.0 T.the_row,
@@ -424,7 +424,7 @@ module _ (g : Name) (Does : Relation) {M : Type 1} {𝓤 : Ura M} (𝓛 : Logic 
       a.1.0 are.1.0.1 a.1.1.0 are.1.1.0.1 a.1.1.1.0 are.1.1.1.0.1 a.1.1.1.1.0
       are.1.1.1.1.0.0.1 a.1.1.1.1.1.0 are.1.1.1.1.1.0.0.1 C Λ fm known))
 
-  goes : AllGo 𝓛 3 fEnded.signature.params fEnded.kept stayed
+  goes : AllGo 𝓛 3 f_ended.signature.params f_ended.kept stayed
   goes = (
     Goes-ref 𝓛 3 0 tt (plain (λ _. T.the_row)),
     (
@@ -443,7 +443,7 @@ module _ (g : Name) (Does : Relation) {M : Type 1} {𝓤 : Ura M} (𝓛 : Logic 
   )
 
   pub outer-meets : (𝓣 : Tables 𝓤 H) → Triple 𝓤 (𝓣.C g) (Callee Does 𝓤 𝓛)
-      → Meets 𝓛 fEnded.signature (WpFn 𝓤 H 𝓣.C 𝓣.Λ (template g)) (closing 𝓛 fEnded (fClauses Does 𝓤))
+      → Meets 𝓛 f_ended.signature (WpFn 𝓤 H 𝓣.C 𝓣.Λ (template g)) (closing 𝓛 f_ended (f_clauses Does 𝓤))
   outer-meets 𝓣 known =
-      walk_Meets 𝓛 fEnded stayed goes (fClauses Does 𝓤) (WpFn 𝓤 H 𝓣.C 𝓣.Λ (template g))
+      walk_Meets 𝓛 f_ended stayed goes (f_clauses Does 𝓤) (WpFn 𝓤 H 𝓣.C 𝓣.Λ (template g))
       (WpFn-mono 𝓤 H 𝓛.laws 𝓣 (template g)) (walks 𝓣.C 𝓣.Λ (fm_of 𝓤 H 𝓛.laws 𝓣) known)

@@ -44,7 +44,7 @@ use denote.Triple.Clauses.{Ended, Clauses, ensured, lasts, closing}
 use denote.Triple.Walked.{says, Stays, stay_ref, stay_dropped, walk_of, AllGo, Goes-dropped, Goes-ref}
 use denote.Triple.Walked.{Walks, ends_at, walked, walk_Meets}
 use denote.Exit.{yes}
-use Rattle.limits.specs.Limits.{maxPages, maxPlaces, contexts, lastBytes}
+use Rattle.limits.specs.Limits.{max_pages, max_places, contexts, last_bytes}
 use Rattle.parts.specs.Parts.{parts_of, Sized}
 use Rattle.desk.specs.declared.Answer.{Answer}
 use Rattle.parts.specs.declared.Book.{Book}
@@ -58,8 +58,8 @@ use Rattle.parts.specs.contracts.Reply as R
 use Rattle.parts.proofs.Reply.TheLaws as R'
 use Rattle.desk.specs.contracts.Answer as N
 use Rattle.desk.proofs.Answer.TheLaws as N'
-use Rattle.counter.specs.Layout.{workingAt, rows_at, learnedAt}
-use Rattle.counter.proofs.Apart.{Working, Rows, Learned, workingTy, rowsTy, learnedTy, Bytes, Names, bv, nv}
+use Rattle.counter.specs.Layout.{working_at, rows_at, learned_at}
+use Rattle.counter.proofs.Apart.{Working, Rows, Learned, working_ty, rows_ty, learned_ty, Bytes, Names, bv, nv}
 use Rattle.counter.proofs.Apart.{answer-is, book-is}
 use Rattle.counter.proofs.Apart.{answer-makes, Fits, BookAt, DeskAt, Arrays, ref, Refs, Lents, Back, apart}
 use Rattle.counter.proofs.Apart.{together, lent_out, back_in}
@@ -77,9 +77,9 @@ template g = record {
       local (ty_int w64) value_local ∷
       local R'.mir value_local ∷
       local B'.mir value_local ∷
-      local (ty_ref erased mut workingTy) value_local ∷
-      local (ty_ref erased mut rowsTy) value_local ∷
-      local (ty_ref erased mut learnedTy) value_local ∷ [];
+      local (ty_ref erased mut working_ty) value_local ∷
+      local (ty_ref erased mut rows_ty) value_local ∷
+      local (ty_ref erased mut learned_ty) value_local ∷ [];
   body =
       seq (assign (place 5 []) (rv_opd (copy (place 1 (deref T'.mir ∷ fieldStep 0 ∷ [])))))
       (seq (assign (place 6 []) (addr_of (place 1 (deref T'.mir ∷ fieldStep 1 ∷ []))))
@@ -96,21 +96,21 @@ template g = record {
 abbrev bytes : ℕ → ℕ → Slot 1
 bytes n m = RefMutOf (0 ∷ []) tt (ArrayOf (ArrayOf (plain (λ _. u8)) (λ _. tt) n) (λ _. tt) m) (λ _. tt)
 
-abbrev gEnded : Ended
-gEnded = record {
+abbrev g_ended : Ended
+g_ended = record {
   signature = record {
     lifetimes = 1;
     outlives = [];
     params =
-        plain (λ _. B.the_row) ∷ bytes contexts maxPages ∷ bytes lastBytes maxPages ∷ bytes contexts maxPlaces ∷
+        plain (λ _. B.the_row) ∷ bytes contexts max_pages ∷ bytes last_bytes max_pages ∷ bytes contexts max_places ∷
         plain (λ _. u64) ∷ plain (λ _. u64) ∷ [];
     result = plain (λ _. R.the_row);
   };
   kept = (yes, (yes, (yes, (yes, (yes, (yes, tt))))));
 }
 
-abbrev fEnded : Ended
-fEnded = record {
+abbrev f_ended : Ended
+f_ended = record {
   signature = record {
     lifetimes = 1;
     outlives = [];
@@ -125,8 +125,8 @@ abbrev Relation : Type 1
 Relation = Parts → ℕ → ℕ → Answer → Parts → Type 0
 
 module _ (Does : Relation) {M : Type 1} (𝓤 : Ura M) where
-  abbrev gClauses : Clauses 𝓤 gEnded
-  gClauses κs a = record {
+  abbrev g_clauses : Clauses 𝓤 g_ended
+  g_clauses κs a = record {
     ghost = Unit {0};
     requires = λ _. fact 𝓤 (Sized a.1.0.now a.1.1.0.now a.1.1.1.0.now);
     ensures = λ _ r e. fact 𝓤
@@ -135,17 +135,17 @@ module _ (Does : Relation) {M : Type 1} (𝓤 : Ura M) where
         (parts_of r.book e.1.0.now e.1.1.0.now e.1.1.1.0.now));
   }
 
-  abbrev fClauses : Clauses 𝓤 fEnded
-  fClauses κs a = record {
+  abbrev f_clauses : Clauses 𝓤 f_ended
+  f_clauses κs a = record {
     ghost = Unit {0};
     requires = λ _. emp 𝓤;
     ensures = λ _ r e. fact 𝓤 (Does a.0.now a.1.0 a.1.1.0 r e.0.now);
   }
 
   abbrev pub Callee : (𝓛 : Logic 𝓤) → Contract 𝓤
-  Callee 𝓛 = triple_of 𝓛 gEnded.signature (closing 𝓛 gEnded gClauses)
+  Callee 𝓛 = triple_of 𝓛 g_ended.signature (closing 𝓛 g_ended g_clauses)
 
-abbrev stayed : Stays fEnded.signature.params fEnded.kept
+abbrev stayed : Stays f_ended.signature.params f_ended.kept
 stayed = (
   stay_ref (0 ∷ []) tt (plain (λ _. T.the_row)),
   (
@@ -177,7 +177,7 @@ module _ (g : Name) (Does : Relation) {M : Type 1} {𝓤 : Ura M} (𝓛 : Logic 
     Rest = owns (u64 ∷ u64 ∷ []) rest rest-vals
 
     abbrev Post : Val → SProp 𝓤
-    Post = (walk_of 𝓛 fEnded stayed (fClauses Does 𝓤)).post (((κ, tt), (q, tt), tt, x, at), tt)
+    Post = (walk_of 𝓛 f_ended stayed (f_clauses Does 𝓤)).post (((κ, tt), (q, tt), tt, x, at), tt)
 
     exits : (r : Reply) (d : Parts) → Does h a₁ a₂ r.answer d → Is N.the_row r.answer (nv r ∷ [])
         → ent 𝓤 (⋆ 𝓛 (‵ (fobs γ ((T.the_row).coded.code d)) ∷ ‵ (fbor κ (Body (mem T.the_row) b o γ)) ∷
@@ -185,7 +185,7 @@ module _ (g : Name) (Does : Relation) {M : Type 1} {𝓤 : Ura M} (𝓛 : Logic 
     exits r d e is =
         qed 𝓛 (‵ (fobs γ ((T.the_row).coded.code d)) ∷ ‵ (fbor κ (Body (mem T.the_row) b o γ)) ∷ ‵ (flft κ q) ∷
         ‵ ftrue ∷ []) ∵
-        suffices ! _ (ends_at 𝓛 fEnded stayed (fClauses Does 𝓤) (((κ, tt), (q, tt), tt, x, at), tt) (nv r)
+        suffices ! _ (ends_at 𝓛 f_ended stayed (f_clauses Does 𝓤) (((κ, tt), (q, tt), tt, x, at), tt) (nv r)
         r.answer
         (d, (tt, (tt, tt))) (tt, (tt, (tt, tt)))) $ says ! e $
         move ! (2 ∷ 3 ∷ []) $ join ! $ frame ! $ feq_i ! (List Val) (vptr b o ∷ []) (vptr b o ∷ []) refl $ fjoin3 ! $
@@ -201,10 +201,10 @@ module _ (g : Name) (Does : Relation) {M : Type 1} {𝓤 : Ura M} (𝓛 : Logic 
       gx = (
         h.book,
         (
-          lent workingAt δ.0 h.working,
+          lent working_at δ.0 h.working,
           (
             lent rows_at δ.1.0 h.rows,
-            (lent learnedAt δ.1.1 h.learned, rest),
+            (lent learned_at δ.1.1 h.learned, rest),
           ),
         ),
       )
@@ -213,10 +213,10 @@ module _ (g : Name) (Does : Relation) {M : Type 1} {𝓤 : Ura M} (𝓛 : Logic 
       at_g = (
         bv h.book ∷ [],
         (
-          vptr b (o + workingAt) ∷ [],
+          vptr b (o + working_at) ∷ [],
           (
             vptr b (o + rows_at) ∷ [],
-            (vptr b (o + learnedAt) ∷ [], rest-vals),
+            (vptr b (o + learned_at) ∷ [], rest-vals),
           ),
         ),
       )
@@ -230,8 +230,8 @@ module _ (g : Name) (Does : Relation) {M : Type 1} {𝓤 : Ura M} (𝓛 : Logic 
           ((Callee Does 𝓤 𝓛).pre to-g)
       goes-g is =
           qed 𝓛 (‵ (flft (α ∷ []) full_share)
-          ∷ (‵ (ref b o Working α workingAt δ.0 h.working) ⊛ ‵ (ref b o Rows α rows_at δ.1.0 h.rows)
-          ⊛ ‵ (ref b o Learned α learnedAt δ.1.1 h.learned)) ∷ ‵ ftrue ∷ ‵ Rest ∷ []) ∵
+          ∷ (‵ (ref b o Working α working_at δ.0 h.working) ⊛ ‵ (ref b o Rows α rows_at δ.1.0 h.rows)
+          ⊛ ‵ (ref b o Learned α learned_at δ.1.1 h.learned)) ∷ ‵ ftrue ∷ ‵ Rest ∷ []) ∵
           says ! is.1 $ move ! (0 ∷ 2 ∷ []) $ join ! $ move ! (1 ∷ []) $ split3 ! $
           move ! (2 ∷ 4 ∷ []) $ fjoin ! $ move ! (2 ∷ 0 ∷ []) $ fjoin ! $ move ! (1 ∷ 0 ∷ []) $ fjoin ! $
           owned ! B.the_row (Is B.the_row) (LL.makes B.the_type B'.the_plain 𝓛) h.book _ is.0 $ fjoin ! $
@@ -249,7 +249,7 @@ module _ (g : Name) (Does : Relation) {M : Type 1} {𝓤 : Ura M} (𝓛 : Logic 
 
     module _ (C : Calls 𝓤 H) (Λ : Loops 𝓤 H) (fm : FmC 𝓤 H 𝓛.laws C) (known : Triple 𝓤 (C g)
         (Callee Does 𝓤 𝓛)) where
-      walk : ent 𝓤 (on_entry 𝓛 fEnded.signature (κ, tt) (q, tt) x at)
+      walk : ent 𝓤 (on_entry 𝓛 f_ended.signature (κ, tt) (q, tt) x at)
           (WpFn 𝓤 H C Λ (template g) (vptr b o ∷ vint w64 a₁ ∷ vint w64 a₂ ∷ []) Post)
       walk =
           qed 𝓛 ((‵ (flft κ q) ⊛ ‵ ftrue) ∷ ‵ (owns (MutRef (named 0) κ T.the_row ∷ u64 ∷ u64 ∷ []) x at) ∷ []) ∵
@@ -292,9 +292,9 @@ module _ (g : Name) (Does : Relation) {M : Type 1} {𝓤 : Ura M} (𝓛 : Logic 
           (and_then ! (load ! (from ! (stop !)) (look ! 7 refl)) (and_then ! (load ! (from ! (stop !)) (look ! 19 refl))
           (and_then ! (load ! (from ! (stop !)) (look ! 17 refl)) (no_more !))))))) (λ v.
           use1 𝓛 (later (some (λ (r : Reply). ((‵ (flft (α ∷ []) full_share) ⊛ ‵ ftrue) ⊛ ‵ ((R.the_row).own_val r (v ∷ [])))
-          ⊛ raw (ensured 𝓛 gEnded (gClauses Does 𝓤) (α ∷ [], tt) (gx α δ) tt r)))) (id⊢ 𝓤 _) $ await ! tt $
+          ⊛ raw (ensured 𝓛 g_ended (g_clauses Does 𝓤) (α ∷ [], tt) (gx α δ) tt r)))) (id⊢ 𝓤 _) $ await ! tt $
           pick ! (λ r. split ! $ move ! (1 ∷ []) $
-          use1 𝓛 (some (λ (zs : Last). ‵ (lasts gEnded (α ∷ [], tt) (gx α δ) zs) ⊛
+          use1 𝓛 (some (λ (zs : Last). ‵ (lasts g_ended (α ∷ [], tt) (gx α δ) zs) ⊛
           raw (fact 𝓤 (Said r zs)))) (id⊢ 𝓤 _) $ pick ! (λ zs.
           split ! $ move ! (1 ∷ []) $ heard ! (Said r zs) (λ e. fsplit ! $ drop ! $
           fsplit ! $ move ! (1 ∷ []) $ fsplit ! $ move ! (1 ∷ []) $ fsplit ! $ move ! (1 ∷ []) $ fsplit ! $ drop ! $
@@ -331,16 +331,16 @@ module _ (g : Name) (Does : Relation) {M : Type 1} {𝓤 : Ura M} (𝓛 : Logic 
           keep ! (0 ∷ 1 ∷ 2 ∷ 3 ∷ []) $ by ! (exits r (after r zs) e (answer-is r _ is)))))))))))))))))))
 
   walks : (C : Calls 𝓤 H) (Λ : Loops 𝓤 H) → FmC 𝓤 H 𝓛.laws C → Triple 𝓤 (C g) (Callee Does 𝓤 𝓛)
-      → Walks 𝓛 fEnded stayed (WpFn 𝓤 H C Λ (template g)) (fClauses Does 𝓤)
+      → Walks 𝓛 f_ended stayed (WpFn 𝓤 H C Λ (template g)) (f_clauses Does 𝓤)
   walks C Λ fm known =
-      walked 𝓛 fEnded stayed (fClauses Does 𝓤) (WpFn 𝓤 H C Λ (template g))
+      walked 𝓛 f_ended stayed (f_clauses Does 𝓤) (WpFn 𝓤 H C Λ (template g))
       (λ κs. (mut_vals, (uint_vals w64, (uint_vals w64, tt))))
       (λ κs. (mut_Tells (named 0) κs.0 T.the_row, (uint_Tells w64, (uint_Tells w64, tt))))
       (λ κs qs bounds a _ are. via 𝓤 _ (fst∗ 𝓤 _ (emp 𝓤)) (walk κs.0 qs.0 a.0.ptr.0 a.0.ptr.1
       a.0.ghost_name a.0.now
       a.1.0 are.1.0.1 a.1.1.0 are.1.1.0.1 C Λ fm known))
 
-  goes : AllGo 𝓛 1 fEnded.signature.params fEnded.kept stayed
+  goes : AllGo 𝓛 1 f_ended.signature.params f_ended.kept stayed
   goes = (
     Goes-ref 𝓛 1 0 tt (plain (λ _. T.the_row)),
     (
@@ -350,7 +350,7 @@ module _ (g : Name) (Does : Relation) {M : Type 1} {𝓤 : Ura M} (𝓛 : Logic 
   )
 
   pub outer-meets : (𝓣 : Tables 𝓤 H) → Triple 𝓤 (𝓣.C g) (Callee Does 𝓤 𝓛)
-      → Meets 𝓛 fEnded.signature (WpFn 𝓤 H 𝓣.C 𝓣.Λ (template g)) (closing 𝓛 fEnded (fClauses Does 𝓤))
+      → Meets 𝓛 f_ended.signature (WpFn 𝓤 H 𝓣.C 𝓣.Λ (template g)) (closing 𝓛 f_ended (f_clauses Does 𝓤))
   outer-meets 𝓣 known =
-      walk_Meets 𝓛 fEnded stayed goes (fClauses Does 𝓤) (WpFn 𝓤 H 𝓣.C 𝓣.Λ (template g))
+      walk_Meets 𝓛 f_ended stayed goes (f_clauses Does 𝓤) (WpFn 𝓤 H 𝓣.C 𝓣.Λ (template g))
       (WpFn-mono 𝓤 H 𝓛.laws 𝓣 (template g)) (walks 𝓣.C 𝓣.Λ (fm_of 𝓤 H 𝓛.laws 𝓣) known)

@@ -1,11 +1,11 @@
 // The calls over a lent desk. Other languages see these calls and no others.
 ghost use Rattle.std.specs.Prelude.{◌≡◌, []};
-ghost use Rattle.desk.specs.Places.{emptyDesk};
-ghost use Rattle.parts.specs.Parts.{deskOf, Whole};
+ghost use Rattle.desk.specs.Places.{empty_desk};
+ghost use Rattle.parts.specs.Parts.{desk_of, Whole};
 ghost use Rattle.desk.specs.Calls.{opens, writes, reads, closes, abandons, drops, looks};
 ghost use Rattle.parts.specs.Replies.{Serves};
-ghost use Rattle.desk.specs.Asked.{asKey, toWrite, toRead, askOf};
-ghost use Rattle.counter.specs.Layout.{deskBytes};
+ghost use Rattle.desk.specs.Asked.{as_key, to_write, to_read, ask_of};
+ghost use Rattle.counter.specs.Layout.{desk_bytes};
 
 use desk::Answer;
 use limits::{CONTEXTS, PAGES, PLACES, ROW};
@@ -18,7 +18,7 @@ const DESK_BYTES: usize = PAGES * (32 + CONTEXTS + ROW) + PLACES * (24 + CONTEXT
 // How many bytes a desk has.
 #[unsafe(no_mangle)]
 pub extern "C" fn siftpebble_desk_bytes() -> usize
-    ensures { result ≡ deskBytes }
+    ensures { result ≡ desk_bytes }
 {
     DESK_BYTES
 }
@@ -26,7 +26,7 @@ pub extern "C" fn siftpebble_desk_bytes() -> usize
 // An empty desk: no page is open, no class has a table.
 #[unsafe(no_mangle)]
 pub extern "C" fn siftpebble_empty(desk: &mut Parts)
-    ensures { (deskOf desk.new ≡ emptyDesk) × Whole desk.new }
+    ensures { (desk_of desk.new ≡ empty_desk) × Whole desk.new }
 {
     let book = asked_tables::emptied(&mut desk.working, &mut desk.rows, &mut desk.learned);
     desk.book = book;
@@ -40,7 +40,7 @@ pub extern "C" fn siftpebble_open_write(
     class: u64,
     width: u64,
 ) -> Answer
-    ensures { Serves desk.old (opens (toWrite school class width)) result desk.new [] }
+    ensures { Serves desk.old (opens (to_write school class width)) result desk.new [] }
 {
     let r = asked_pages::opened_to_write(
         desk.book,
@@ -63,7 +63,7 @@ pub extern "C" fn siftpebble_open_read(
     class: u64,
     width: u64,
 ) -> Answer
-    ensures { Serves desk.old (opens (toRead school class width)) result desk.new [] }
+    ensures { Serves desk.old (opens (to_read school class width)) result desk.new [] }
 {
     let r = asked_pages::opened_to_read(
         desk.book,
@@ -81,7 +81,7 @@ pub extern "C" fn siftpebble_open_read(
 // Close: the working table becomes the class's learned table. The page is gone.
 #[unsafe(no_mangle)]
 pub extern "C" fn siftpebble_close(desk: &mut Parts, school: u64, class: u64) -> Answer
-    ensures { Serves desk.old (closes (asKey school class)) result desk.new [] }
+    ensures { Serves desk.old (closes (as_key school class)) result desk.new [] }
 {
     let r = asked_pages::closed(
         desk.book,
@@ -98,7 +98,7 @@ pub extern "C" fn siftpebble_close(desk: &mut Parts, school: u64, class: u64) ->
 // Abandon: the page is gone, the learned table is as before; a place that was only reserved is free.
 #[unsafe(no_mangle)]
 pub extern "C" fn siftpebble_abandon(desk: &mut Parts, school: u64, class: u64) -> Answer
-    ensures { Serves desk.old (abandons (asKey school class)) result desk.new [] }
+    ensures { Serves desk.old (abandons (as_key school class)) result desk.new [] }
 {
     let r = asked_pages::abandoned(
         desk.book,
@@ -115,7 +115,7 @@ pub extern "C" fn siftpebble_abandon(desk: &mut Parts, school: u64, class: u64) 
 // Drop: the class's learned table is forgotten.
 #[unsafe(no_mangle)]
 pub extern "C" fn siftpebble_drop(desk: &mut Parts, school: u64, class: u64) -> Answer
-    ensures { Serves desk.old (drops (asKey school class)) result desk.new [] }
+    ensures { Serves desk.old (drops (as_key school class)) result desk.new [] }
 {
     let r = asked_tables::forgotten(
         desk.book,
@@ -137,7 +137,7 @@ pub extern "C" fn siftpebble_look(
     class: u64,
     out: &mut [u8],
 ) -> Answer
-    ensures { Serves desk.old (looks (asKey school class) out.old) result desk.new
+    ensures { Serves desk.old (looks (as_key school class) out.old) result desk.new
         out.new }
 {
     let r = asked_tables::looked(
@@ -163,7 +163,7 @@ pub extern "C" fn siftpebble_write(
     pels: &[u8],
     out: &mut [u8],
 ) -> Answer
-    ensures { Serves desk.old (writes (askOf school class rows) pels.now
+    ensures { Serves desk.old (writes (ask_of school class rows) pels.now
         out.old) result desk.new
         out.new }
 {
@@ -192,7 +192,7 @@ pub extern "C" fn siftpebble_read(
     code: &[u8],
     out: &mut [u8],
 ) -> Answer
-    ensures { Serves desk.old (reads (askOf school class rows) code.now
+    ensures { Serves desk.old (reads (ask_of school class rows) code.now
         out.old) result desk.new
         out.new }
 {

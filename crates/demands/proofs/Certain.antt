@@ -9,7 +9,7 @@ use Rattle.unique.proofs.OneReader.{reading, one_reader}
 use Rattle.desk.specs.declared.Answer.{Answer}
 use Rattle.parts.specs.declared.Parts.{Parts}
 use Rattle.desk.specs.Desk.{Desk, Outcome}
-use Rattle.parts.specs.Parts.{deskOf}
+use Rattle.parts.specs.Parts.{desk_of}
 use Rattle.desk.specs.Calls.{Call}
 use Rattle.desk.specs.Allowed.{outcome, lent, Allowed}
 use Rattle.parts.specs.Replies.{Serves}
@@ -37,7 +37,7 @@ pub certain-parts : (p : Parts) (c : Call) (r r' : Answer) (q q' : Parts) (after
     → Serves p c r q after → Serves p c r' q' after'
     → (r ≡ r') × (q ≡ q') × (after ≡ after')
 certain-parts p c r r' q q' after after' s t =
-    let e = certain (deskOf p) c _ _ after after' s.allowed t.allowed in (
+    let e = certain (desk_of p) c _ _ after after' s.allowed t.allowed in (
       ap (λ (x : Step). x.answer) e,
       same_parts q q' s.whole t.whole (ap (λ (x : Step). x.desk) e),
       ap

@@ -6,8 +6,8 @@ use Rattle.turns.specs.Serial.{serial}
 use Rattle.unique.proofs.OneReader.{reading}
 use Rattle.desk.specs.declared.Key.{Key}
 use Rattle.desk.specs.Desk.{Desk}
-use Rattle.desk.specs.Places.{emptyDesk}
-use Rattle.desk.specs.Standing.{learnedTable}
+use Rattle.desk.specs.Places.{empty_desk}
+use Rattle.desk.specs.Standing.{learned_table}
 use Rattle.serial.specs.Run.{Step, calling, step_of, entry_of, step, run, after}
 use Rattle.serial.specs.Demand3.{Demand3, left}
 use Rattle.demands.proofs.Certain.{as-run}
@@ -32,18 +32,18 @@ ran _ _ _ (more d c r lent es d' p q) =
 
 -- Demand 3 of histories: whatever was answered from an empty desk, serving what is left on a new one answers the same
 -- and ends with the same tables
-pub any-history : (es fs : List (Entry calling)) (d d' : Desk) → Ran emptyDesk es d → Ran emptyDesk fs d'
+pub any-history : (es fs : List (Entry calling)) (d d' : Desk) → Ran empty_desk es d → Ran empty_desk fs d'
     → calls calling fs ≡ calls calling (serial calling es)
-    → (fs ≡ serial calling es) × ((k : Key) → learnedTable d' k ≡ learnedTable d k)
+    → (fs ≡ serial calling es) × ((k : Key) → learned_table d' k ≡ learned_table d k)
 unfolding left
 any-history es fs d d' p q c =
-    let a : AsRun emptyDesk es d = ran emptyDesk es d p in
-    let b : AsRun emptyDesk fs d' = ran emptyDesk fs d' q in
+    let a : AsRun empty_desk es d = ran empty_desk es d p in
+    let b : AsRun empty_desk fs d' = ran empty_desk fs d' q in
     let t : Demand3 reading (calls calling es) = any_order (calls calling es) in
     let s : calls calling fs ≡ calls calling (left reading (calls calling es)) = c
     ∙ ap (λ (l : List (Entry calling)). calls calling (serial calling l)) a.answers in (
-      b.answers ∙ ap (run reading emptyDesk) s ∙ t.answers ∙ ap (serial calling) (sym a.answers),
-      (λ k. ap (λ (z : Desk). learnedTable z k) (b.ends ∙ ap (after reading emptyDesk) s) ∙ t.tables k
-          ∙ ap (λ (z : Desk). learnedTable z k)
+      b.answers ∙ ap (run reading empty_desk) s ∙ t.answers ∙ ap (serial calling) (sym a.answers),
+      (λ k. ap (λ (z : Desk). learned_table z k) (b.ends ∙ ap (after reading empty_desk) s) ∙ t.tables k
+          ∙ ap (λ (z : Desk). learned_table z k)
           (sym a.ends)),
     )

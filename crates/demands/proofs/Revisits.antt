@@ -9,29 +9,29 @@ use Rattle.band.proofs.Revisits as band
 use Rattle.desk.specs.Desk.{Page, Desk, Outcome}
 use Rattle.desk.specs.Calls.{Call, key_of, opens, writes, reads, closes, abandons, drops, looks}
 use Rattle.desk.specs.Standing.{Stand, stand, page_of}
-use Rattle.desk.specs.Tests.{bandOf}
-use Rattle.desk.specs.Effects.{Effect, bandIn, effect}
+use Rattle.desk.specs.Tests.{band_of}
+use Rattle.desk.specs.Effects.{Effect, band_in, effect}
 use Rattle.desk.specs.Changes.{changed}
-use Rattle.desk.specs.Allowed.{done, unless, number, effectOn, outcome, Allowed}
-use Rattle.demands.specs.Revisits.{pelsOf, Revisits}
+use Rattle.desk.specs.Allowed.{done, unless, number, effect_on, outcome, Allowed}
+use Rattle.demands.specs.Revisits.{pels_of, Revisits}
 
 -- n pels of m, with s shifts
 abbrev Few : ℕ → ℕ → ℕ → Type 0
 Few n s m = (n ≤ s) × (n ≤ m)
 
-band-few : (p : Page) (rows : ℕ) (pels : List ℕ) → let w = bandOf p rows pels in
+band-few : (p : Page) (rows : ℕ) (pels : List ℕ) → let w = band_of p rows pels in
     Few w.revisits w.shifts (rows * p.width)
-unfolding bandOf
-band-few p rows pels = (band.at-most-shifts _ rows _ _ pels, band.at-most-pels _ rows _ _ pels)
+unfolding band_of
+band-few p rows pels = (band.at_most_shifts _ rows _ _ pels, band.at_most_pels _ rows _ _ pels)
 
 -- what any call does
 effect-few : (finds : Finder) (s : Stand) (c : Call) → let e = effect finds c s in
-    Few e.revisits e.shifts (pelsOf c (page_of s))
+    Few e.revisits e.shifts (pels_of c (page_of s))
 unfolding effect
 effect-few finds s (opens ask) = (omega arith, omega arith)
 effect-few finds s (writes ask pels out) = band-few (page_of s) ask.rows pels
 effect-few finds s (reads ask code out) =
-    band-few (page_of s) ask.rows (bandIn finds (page_of s) ask.rows code)
+    band-few (page_of s) ask.rows (band_in finds (page_of s) ask.rows code)
 effect-few finds s (closes k) = (omega arith, omega arith)
 effect-few finds s (abandons k) = (omega arith, omega arith)
 effect-few finds s (drops k) = (omega arith, omega arith)
@@ -44,10 +44,10 @@ unfolding outcome
 revisits d c r after p = subst (Revisits d c) (sym p.outcome) (go (number p.reader.finds d c))
   where
     e : Effect
-    e = effectOn p.reader.finds d c
+    e = effect_on p.reader.finds d c
 
     go : (n : ℕ) → Revisits d c (unless n d (done e (changed d (key_of c) e.page e.learned)))
     go zero =
         let f = effect-few p.reader.finds (stand d (key_of c)) c in
-        record { at-most-shifts = f.0; at-most-pels = f.1 }
-    go (suc n) = record { at-most-shifts = omega arith; at-most-pels = omega arith }
+        record { at_most_shifts = f.0; at_most_pels = f.1 }
+    go (suc n) = record { at_most_shifts = omega arith; at_most_pels = omega arith }

@@ -5,16 +5,16 @@ use Rattle.desk.specs.Calls.{Call, key_of, opens, writes, reads, closes, abandon
 use Rattle.desk.specs.Standing.{stand, page_of}
 
 -- the pels of the band that a call is about, on a page; none where it is no band
-abbrev pub pelsOf : Call → Page → ℕ
-pelsOf (opens ask) p = 0
-pelsOf (writes ask pels out) p = ask.rows * p.width
-pelsOf (reads ask code out) p = ask.rows * p.width
-pelsOf (closes k) p = 0
-pelsOf (abandons k) p = 0
-pelsOf (drops k) p = 0
-pelsOf (looks k out) p = 0
+abbrev pub pels_of : Call → Page → ℕ
+pels_of (opens ask) p = 0
+pels_of (writes ask pels out) p = ask.rows * p.width
+pels_of (reads ask code out) p = ask.rows * p.width
+pels_of (closes k) p = 0
+pels_of (abandons k) p = 0
+pels_of (drops k) p = 0
+pels_of (looks k out) p = 0
 
 -- the pels revisited are at most S, and at most the band's pels
 pub record Revisits (d : Desk) (c : Call) (r : Outcome) : Type 0 where
-  pub at-most-shifts : r.answer.revisits ≤ r.answer.shifts
-  pub at-most-pels : r.answer.revisits ≤ pelsOf c (page_of (stand d (key_of c)))
+  pub at_most_shifts : r.answer.revisits ≤ r.answer.shifts
+  pub at_most_pels : r.answer.revisits ≤ pels_of c (page_of (stand d (key_of c)))

@@ -21,8 +21,8 @@ seeing p s = record {
   sound = s.sound;
   page = p;
   learned = s.learned;
-  pageFree = s.pageFree;
-  placeFree = s.placeFree;
+  page_free = s.page_free;
+  place_free = s.place_free;
 }
 
 module _ (finds : Finder) where

@@ -18,9 +18,9 @@ abbrev pub test_of : ℕ → List Row → Bool
 test_of n [] = false
 test_of n (r ∷ rs) = cond (eqb r.number n) r.holds (test_of n rs)
 
-abbrev pub testAfter : ℕ → ℕ → List Row → Bool
-testAfter m n [] = false
-testAfter m n (r ∷ rs) = cond (eqb r.number m) (test_of n rs) (testAfter m n rs)
+abbrev pub test_after : ℕ → ℕ → List Row → Bool
+test_after m n [] = false
+test_after m n (r ∷ rs) = cond (eqb r.number m) (test_of n rs) (test_after m n rs)
 
 -- it did not hold, and no later test either
 first : (r : Row) (rs : List Row) → numbered (r ∷ rs) ≡ true → refusal (r ∷ rs) ≡ 0 → (r.holds ≡ false)
@@ -43,13 +43,13 @@ passed n (r ∷ rs) g e = go (eqb r.number n) (first r rs g e)
     go true p ih = p.0
     go false p ih = ih p.1
 
-pub passed-after : (m n : ℕ) (rs : List Row) → numbered rs ≡ true → refusal rs ≡ 0 → testAfter m n rs ≡ false
+pub passed-after : (m n : ℕ) (rs : List Row) → numbered rs ≡ true → refusal rs ≡ 0 → test_after m n rs ≡ false
 passed-after m n [] g e = refl
 passed-after m n (r ∷ rs) g e =
     let p = first r rs g e in
     let h = (both (not (eqb r.number 0)) (numbered rs) g).1 in
     go (eqb r.number m) (passed n rs h p.1) (passed-after m n rs h p.1)
   where
-    go : (b : Bool) → test_of n rs ≡ false → testAfter m n rs ≡ false → cond b (test_of n rs) (testAfter m n rs) ≡ false
+    go : (b : Bool) → test_of n rs ≡ false → test_after m n rs ≡ false → cond b (test_of n rs) (test_after m n rs) ≡ false
     go true p q = p
     go false p q = q

@@ -4,28 +4,28 @@ use Rattle.std.specs.Prelude.{◌≡◌, ℕ, zero, suc, List}
 use Rattle.band.specs.Band.{Finder, Reader}
 use Rattle.desk.specs.declared.Answer.{Answer}
 use Rattle.desk.specs.Desk.{Desk, Outcome}
-use Rattle.desk.specs.Refusals.{refusal, lentAfter}
-use Rattle.desk.specs.Calls.{Call, key_of, lentTo}
+use Rattle.desk.specs.Refusals.{refusal, lent_after}
+use Rattle.desk.specs.Calls.{Call, key_of, lent_to}
 use Rattle.desk.specs.Standing.{stand}
 use Rattle.desk.specs.Tests.{tests}
 use Rattle.desk.specs.Effects.{Effect, effect}
 use Rattle.desk.specs.Changes.{changed}
 
 -- A refusal answers its number, length 0 and S = 0, and no pel revisited.
-abbrev pub refusedAs : ℕ → Answer
-refusedAs n = record { number = n; length = 0; shifts = 0; revisits = 0 }
+abbrev pub refused_as : ℕ → Answer
+refused_as n = record { number = n; length = 0; shifts = 0; revisits = 0 }
 
 -- An accepted call answers 0 as its number.
-abbrev pub doneAs : Effect → Answer
-doneAs e = record { number = 0; length = e.length; shifts = e.shifts; revisits = e.revisits }
+abbrev pub done_as : Effect → Answer
+done_as e = record { number = 0; length = e.length; shifts = e.shifts; revisits = e.revisits }
 
 -- A refusal changes nothing in the desk.
 abbrev pub refused : ℕ → Desk → Outcome
-refused n d = record { answer = refusedAs n; desk = d }
+refused n d = record { answer = refused_as n; desk = d }
 
 -- an accepted call: its answer, and the desk after it
 abbrev pub done : Effect → Desk → Outcome
-done e d = record { answer = doneAs e; desk = d }
+done e d = record { answer = done_as e; desk = d }
 
 -- refused by its number, or, where that is 0, done
 abbrev pub unless : ℕ → Desk → Outcome → Outcome
@@ -33,9 +33,9 @@ unless zero d o = o
 unless (suc n) d o = refused (suc n) d
 
 -- the lent buffer after a refusal, or, where the number is 0, after an accepted call
-abbrev pub unlessLent : ℕ → List ℕ → List ℕ → List ℕ
-unlessLent zero out after = after
-unlessLent (suc n) out after = lentAfter (suc n) out
+abbrev pub unless_lent : ℕ → List ℕ → List ℕ → List ℕ
+unless_lent zero out after = after
+unless_lent (suc n) out after = lent_after (suc n) out
 
 module _ (finds : Finder) (d : Desk) (c : Call) where
   -- the number of its refusal, or 0
@@ -43,17 +43,17 @@ module _ (finds : Finder) (d : Desk) (c : Call) where
   number = refusal (tests finds c (stand d (key_of c)))
 
   -- what the call does, where it is accepted
-  abbrev pub effectOn : Effect
-  effectOn = effect finds c (stand d (key_of c))
+  abbrev pub effect_on : Effect
+  effect_on = effect finds c (stand d (key_of c))
 
   -- the answer and the desk after it
   unfoldable pub outcome : Outcome
   outcome =
-      unless number d (done effectOn (changed d (key_of c) effectOn.page effectOn.learned))
+      unless number d (done effect_on (changed d (key_of c) effect_on.page effect_on.learned))
 
   -- the lent buffer after it (empty where none is lent)
   unfoldable pub lent : List ℕ
-  lent = unlessLent number (lentTo c) effectOn.lent
+  lent = unless_lent number (lent_to c) effect_on.lent
 
 -- The answer, the desk and the lent buffer are those, by what a right reader finds in a code. (There is one right
 -- reader: any two find the same.)

@@ -7,21 +7,21 @@ use Rattle.desk.specs.declared.Direction.{Direction}
 use Rattle.desk.specs.declared.Direction.TheVariants.{Write, Read}
 
 -- a key by its school number and its class number
-abbrev pub asKey : ℕ → ℕ → Key
-asKey school class = record { school = school; class = class }
+abbrev pub as_key : ℕ → ℕ → Key
+as_key school class = record { school = school; class = class }
 
 -- what open is asked: the key, the direction, the width
-abbrev pub askedTo : ℕ → ℕ → Direction → ℕ → Opening
-askedTo school class direction width = record { key = asKey school class; direction = direction; width = width }
+abbrev pub asked_to : ℕ → ℕ → Direction → ℕ → Opening
+asked_to school class direction width = record { key = as_key school class; direction = direction; width = width }
 
 -- what open is asked: a page to write
-abbrev pub toWrite : ℕ → ℕ → ℕ → Opening
-toWrite school class width = askedTo school class Write width
+abbrev pub to_write : ℕ → ℕ → ℕ → Opening
+to_write school class width = asked_to school class Write width
 
 -- what open is asked: a page to read
-abbrev pub toRead : ℕ → ℕ → ℕ → Opening
-toRead school class width = askedTo school class Read width
+abbrev pub to_read : ℕ → ℕ → ℕ → Opening
+to_read school class width = asked_to school class Read width
 
 -- what a band call is asked, beside its bytes
-abbrev pub askOf : ℕ → ℕ → ℕ → Ask
-askOf school class rows = record { key = asKey school class; rows = rows }
+abbrev pub ask_of : ℕ → ℕ → ℕ → Ask
+ask_of school class rows = record { key = as_key school class; rows = rows }

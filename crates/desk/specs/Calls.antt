@@ -26,14 +26,14 @@ key_of (drops k) = k
 key_of (looks k out) = k
 
 -- the lent buffer as it was; empty where none is lent
-abbrev pub lentTo : Call → List ℕ
-lentTo (opens ask) = []
-lentTo (writes ask pels out) = out
-lentTo (reads ask code out) = out
-lentTo (closes k) = []
-lentTo (abandons k) = []
-lentTo (drops k) = []
-lentTo (looks k out) = out
+abbrev pub lent_to : Call → List ℕ
+lent_to (opens ask) = []
+lent_to (writes ask pels out) = out
+lent_to (reads ask code out) = out
+lent_to (closes k) = []
+lent_to (abandons k) = []
+lent_to (drops k) = []
+lent_to (looks k out) = out
 
 -- A page's own calls are its open, its bands and its close or abandon; a look or drop of the same key is not one of
 -- them.

@@ -5,14 +5,14 @@ use Rattle.ground.specs.Options.{or_else}
 use Rattle.limits.specs.Limits.{contexts}
 use Rattle.estimate.specs.declared.Table.{Table}
 use Rattle.estimate.specs.Estimate.{fresh}
-use Rattle.store.specs.Store.{inFront}
+use Rattle.store.specs.Store.{in_front}
 use Rattle.band.specs.Band.{white, Written, Finder}
 use Rattle.desk.specs.declared.Opening.{Opening}
 use Rattle.desk.specs.Desk.{Page}
-use Rattle.desk.specs.Places.{stateFor, noTable}
+use Rattle.desk.specs.Places.{state_for, no_table}
 use Rattle.desk.specs.Calls.{Call, opens, writes, reads, closes, abandons, drops, looks}
 use Rattle.desk.specs.Standing.{Stand, page_of}
-use Rattle.desk.specs.Tests.{bandOf, foundIn}
+use Rattle.desk.specs.Tests.{band_of, found_in}
 
 -- what becomes of the key's page, and of its class's learned table
 pub data Change (A : Type 0) : Type 0 where
@@ -41,17 +41,17 @@ abbrev pub does : Change Page → Change Table → Effect
 does p t = record { length = 0; shifts = 0; revisits = 0; lent = []; page = p; learned = t }
 
 -- the fresh table
-abbrev pub freshTable : Table
-freshTable = record { entries = fresh }
+abbrev pub fresh_table : Table
+fresh_table = record { entries = fresh }
 
 -- a new page: its working table; last row white
-unfoldable pub newPage : Opening → Table → Page
-newPage ask t =
-    record { state = stateFor ask.direction; key = ask.key; width = ask.width; table = t; last = white }
+unfoldable pub new_page : Opening → Table → Page
+new_page ask t =
+    record { state = state_for ask.direction; key = ask.key; width = ask.width; table = t; last = white }
 
 -- the page after a band: its table and last row
-unfoldable pub servedPage : Page → Written → Page
-servedPage p w =
+unfoldable pub served_page : Page → Written → Page
+served_page p w =
     record { state = p.state; key = p.key; width = p.width; table = record { entries = w.table }; last = w.last }
 
 -- a band: bytes in the front of the buffer, the rest kept; S, and the pels revisited; the page goes on
@@ -61,28 +61,28 @@ serves p w bytes out =
       length = length bytes;
       shifts = w.shifts;
       revisits = w.revisits;
-      lent = inFront bytes out;
-      page = becomes (servedPage p w);
+      lent = in_front bytes out;
+      page = becomes (served_page p w);
       learned = stays;
     }
 
 module _ (finds : Finder) where
   -- the band that a read finds
-  abbrev pub bandIn : Page → ℕ → List ℕ → List ℕ
-  bandIn p rows code = or_else (foundIn finds p rows code) []
+  abbrev pub band_in : Page → ℕ → List ℕ → List ℕ
+  band_in p rows code = or_else (found_in finds p rows code) []
 
   -- what each call answers, lends back and does, where no test refuses it
   unfoldable pub effect : Call → Stand → Effect
   -- working table = the class's learned table, or the fresh one
-  effect (opens ask) s = does (becomes (newPage ask (or_else s.learned freshTable))) stays
+  effect (opens ask) s = does (becomes (new_page ask (or_else s.learned fresh_table))) stays
   -- the code in the front of the buffer
   effect (writes ask pels out) s =
-      let w : Written = bandOf (page_of s) ask.rows pels in
+      let w : Written = band_of (page_of s) ask.rows pels in
       serves (page_of s) w w.code out
   -- the rows in the front of the buffer
   effect (reads ask code out) s =
-      let rows : List ℕ = bandIn (page_of s) ask.rows code in
-      serves (page_of s) (bandOf (page_of s) ask.rows rows) rows out
+      let rows : List ℕ = band_in (page_of s) ask.rows code in
+      serves (page_of s) (band_of (page_of s) ask.rows rows) rows out
   -- the working table becomes the class's learned table; the page is gone
   effect (closes k) s = does gone (becomes (page_of s).table)
   -- the page is gone, the learned table is as before
@@ -95,7 +95,7 @@ module _ (finds : Finder) where
         length = contexts;
         shifts = 0;
         revisits = 0;
-        lent = inFront (or_else s.learned noTable).entries out;
+        lent = in_front (or_else s.learned no_table).entries out;
         page = stays;
         learned = stays;
       }

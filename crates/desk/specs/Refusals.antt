@@ -26,22 +26,22 @@ from n [] = []
 from n (m ∷ ms) = cond (eqb n m) (m ∷ ms) (from n ms)
 
 -- the tests' numbers stand in such an order: each is found from the one before it on
-unfoldable pub inOrder : List Row → List ℕ → Bool
-inOrder [] ns = true
-inOrder (r ∷ rs) ns = ltb 0 (length (from r.number ns)) && inOrder rs (from r.number ns)
+unfoldable pub in_order : List Row → List ℕ → Bool
+in_order [] ns = true
+in_order (r ∷ rs) ns = ltb 0 (length (from r.number ns)) && in_order rs (from r.number ns)
 
 -- the number that says "damaged": 15 where there is a marker in the code, 10 where there is none (request E4)
 abbrev pub damage : Bool → ℕ
 damage m = cond m 15 10
 
 -- the numbers that say "damaged"
-abbrev pub isDamage : ℕ → Bool
-isDamage n = eqb n 15 || eqb n 10
+abbrev pub is_damage : ℕ → Bool
+is_damage n = eqb n 15 || eqb n 10
 
 -- the numbers that set all of the lent output to zero: "no room" and "damaged"
 abbrev pub zeroing : ℕ → Bool
-zeroing n = eqb n 9 || isDamage n
+zeroing n = eqb n 9 || is_damage n
 
 -- a refusal leaves the lent output unchanged, or sets all of it to zero
-unfoldable pub lentAfter : ℕ → List ℕ → List ℕ
-lentAfter n out = cond (zeroing n) (cleared out) out
+unfoldable pub lent_after : ℕ → List ℕ → List ℕ
+lent_after n out = cond (zeroing n) (cleared out) out

@@ -7,8 +7,8 @@ use Rattle.desk.specs.declared.Key.{Key}
 use Rattle.desk.specs.Desk.{Page, Desk}
 use Rattle.desk.specs.declared.Found.{Found}
 use Rattle.desk.specs.declared.Found.TheVariants.{At, Nothing}
-use Rattle.desk.specs.Places.{noPage, pageFound, tableFound, freePageFound, freePlaceFound, isFound, pageAt}
-use Rattle.desk.specs.Places.{placeAt}
+use Rattle.desk.specs.Places.{no_page, page_found, table_found, free_page_found, free_place_found, is_found, page_at}
+use Rattle.desk.specs.Places.{place_at}
 use Rattle.desk.specs.Lawful.{lawful}
 
 -- whether the desk is lawful; the key's open page and its class's learned table; whether a further page and a further
@@ -17,38 +17,38 @@ pub record Stand : Type 0 where
   pub sound : Bool
   pub page : Option Page
   pub learned : Option Table
-  pub pageFree : Bool
-  pub placeFree : Bool
+  pub page_free : Bool
+  pub place_free : Bool
 
 -- the open page (no page, where there is none)
 abbrev pub page_of : Stand → Page
-page_of s = or_else s.page noPage
+page_of s = or_else s.page no_page
 
 -- what a lookup's answer means: the page at the index found, or none
-abbrev pub pageBy : Desk → Found → Option Page
-pageBy d (At i) = some (pageAt d (At i))
-pageBy d Nothing = none
+abbrev pub page_by : Desk → Found → Option Page
+page_by d (At i) = some (page_at d (At i))
+page_by d Nothing = none
 
 -- what a lookup's answer means: the learned table at the index found, or none
-abbrev pub tableBy : Desk → Found → Option Table
-tableBy d (At i) = some (placeAt d (At i)).table
-tableBy d Nothing = none
+abbrev pub table_by : Desk → Found → Option Table
+table_by d (At i) = some (place_at d (At i)).table
+table_by d Nothing = none
 
 -- a key's open page
-abbrev pub openPage : Desk → Key → Option Page
-openPage d k = pageBy d (pageFound d k)
+abbrev pub open_page : Desk → Key → Option Page
+open_page d k = page_by d (page_found d k)
 
 -- a class's learned table
-abbrev pub learnedTable : Desk → Key → Option Table
-learnedTable d k = tableBy d (tableFound d k)
+abbrev pub learned_table : Desk → Key → Option Table
+learned_table d k = table_by d (table_found d k)
 
 -- what a call under the key k meets at the desk d
 unfoldable pub stand : Desk → Key → Stand
 stand d k =
     record {
       sound = lawful d;
-      page = openPage d k;
-      learned = learnedTable d k;
-      pageFree = isFound (freePageFound d);
-      placeFree = isFound (freePlaceFound d);
+      page = open_page d k;
+      learned = learned_table d k;
+      page_free = is_found (free_page_found d);
+      place_free = is_found (free_place_found d);
     }

@@ -17,7 +17,7 @@ use Rattle.coder.specs.Page.{Page, context_of, entry_at, size, sense, taught, pl
 use Rattle.store.specs.Store.{stores}
 use Rattle.store.proofs.Store.{stores-append, length-stores}
 use Rattle.engine.specs.Engine.{Engine}
-use Rattle.engine.specs.Coded.{Gives, rowPage, shiftsOf, shifted_by, LawfulTable, Pelled, pages, stageOf, page_of}
+use Rattle.engine.specs.Coded.{Gives, row_page, shifts_of, shifted_by, LawfulTable, Pelled, pages, stage_of, page_of}
 use Rattle.engine.specs.Coded.{through, Coded, Stored}
 use Rattle.engine.proofs.Engine.{IsEngine}
 
@@ -30,7 +30,7 @@ module _ (E : Engine) (width : ℕ) where
   page-within table above this h = if-ne (length this) width _ _ (λ e. omega arith)
 
   pub page-full : (table above this : List ℕ) → length this ≡ width
-      → page_of E width table above this ≡ rowPage table this
+      → page_of E width table above this ≡ row_page table this
   unfolding placed
   page-full table above this h = if-eq (length this) width _ _ h
 
@@ -95,7 +95,7 @@ module _ (E : Engine) (K : IsEngine E) where
     unfolding after
     coded_none m c n l r =
         record {
-          stage = λ xs. ap (λ (ys : List ℕ). stageOf E width m (E.stands c ys) n) (sym (append-nil xs));
+          stage = λ xs. ap (λ (ys : List ℕ). stage_of E width m (E.stands c ys) n) (sym (append-nil xs));
           few = omega arith;
           lawful = l;
           ready = r;
@@ -126,19 +126,19 @@ module _ (E : Engine) (K : IsEngine E) where
           go false x k = sym (set-get_or table here 0) ∙ ap (set table here) (sym k)
 
       one-stage : length this < width → Pelled E c e b v → (xs : List ℕ)
-          → through E width (stageOf E width (page_of E width table above this) (E.stands c xs) n) (p ∷ [])
-          ≡ stageOf E width then (E.stands v.registers (xs ++ v.bytes)) (counted v.revisited n)
+          → through E width (stage_of E width (page_of E width table above this) (E.stands c xs) n) (p ∷ [])
+          ≡ stage_of E width then (E.stands v.registers (xs ++ v.bytes)) (counted v.revisited n)
       unfolding after size sense entry_at context_of move taught
       one-stage h k xs =
-          ap (λ (m : Page). step (pages E width) E.writer (stageOf E width m (E.stands c xs) n) p)
+          ap (λ (m : Page). step (pages E width) E.writer (stage_of E width m (E.stands c xs) n) p)
           (page-within E width table above this h)
-          ∙ ap (λ (s : Bool). stageOf E width (page_of E width (cond s (set table here (E.scheme.next b e)) table)
+          ∙ ap (λ (s : Bool). stage_of E width (page_of E width (cond s (set table here (E.scheme.next b e)) table)
           above (this ++ (p ∷ []))) (E.writer.put (E.scheme.size e) b (E.stands c xs)) (counted s n))
           (K.moves (E.scheme.size e) b c xs)
-          ∙ ap₂ (λ (t : List ℕ) (w : E.writer.State). stageOf E width (page_of E width t above (this ++ (p ∷ []))) w
+          ∙ ap₂ (λ (t : List ℕ) (w : E.writer.State). stage_of E width (page_of E width t above (this ++ (p ∷ []))) w
           (counted (shifted_by E c e b) n)) (taught-set k.entry)
           (K.puts (E.scheme.size e) b c v.registers xs v.bytes k.puts)
-          ∙ ap (λ (s : Bool). stageOf E width then (E.stands v.registers (xs ++ v.bytes)) (counted s n))
+          ∙ ap (λ (s : Bool). stage_of E width then (E.stands v.registers (xs ++ v.bytes)) (counted s n))
           (sym k.revisited)
 
       coded-here : length this < width → LawfulTable E table → E.Ready c → Pelled E c e b v
@@ -176,10 +176,10 @@ module _ (E : Engine) (K : IsEngine E) where
     coded-append m₀ c₀ n₀ ps m₁ c₁ n₁ xs qs m₂ c₂ n₂ ys f g =
         let l : length (ps ++ qs) ≡ length ps + length qs = length-append ps qs in
         record {
-          stage = λ zs. after-append (pages E width) E.writer ps qs (stageOf E width m₀ (E.stands c₀ zs) n₀)
+          stage = λ zs. after-append (pages E width) E.writer ps qs (stage_of E width m₀ (E.stands c₀ zs) n₀)
               ∙ ap (λ (s : Stage (pages E width) E.writer). through E width s qs) (f.stage zs)
               ∙ g.stage (zs ++ xs)
-              ∙ ap (λ (l : List ℕ). stageOf E width m₂ (E.stands c₂ l) n₂) (append_assoc zs xs ys);
+              ∙ ap (λ (l : List ℕ). stage_of E width m₂ (E.stands c₂ l) n₂) (append_assoc zs xs ys);
           few = omega (arith, f.few, g.few, length-append xs ys);
           lawful = g.lawful;
           ready = g.ready;
@@ -188,11 +188,11 @@ module _ (E : Engine) (K : IsEngine E) where
 
     -- no more pels were revisited than there were shifts
     pub coded-revisits : (m₀ : Page) (c₀ : E.Registers) (n₀ : ℕ) (ps : List ℕ) (m : Page) (c : E.Registers) (n : ℕ)
-        (xs : List ℕ) → Coded E width m₀ c₀ n₀ ps m c n xs → n₀ ≤ shiftsOf E c₀ → n ≤ shiftsOf E c
+        (xs : List ℕ) → Coded E width m₀ c₀ n₀ ps m c n xs → n₀ ≤ shifts_of E c₀ → n ≤ shifts_of E c
     coded-revisits m₀ c₀ n₀ ps m c n xs f h =
         subst (λ (k : ℕ). n ≤ k) (K.count c xs)
         (subst (λ (s : Stage (pages E width) E.writer). s.revisits ≤ E.writer.count s.writer) (f.stage [])
-        (revisits-shifts (pages E width) E.writer K.counts ps (stageOf E width m₀ (E.stands c₀ []) n₀) h))
+        (revisits-shifts (pages E width) E.writer K.counts ps (stage_of E width m₀ (E.stands c₀ []) n₀) h))
 
     -- ---- with their bytes in a buffer
     pub stored-none : (m : Page) (c : E.Registers) (n : ℕ) (out : List ℕ) (at : ℕ) → LawfulTable E m.table

@@ -6,7 +6,7 @@ use mathlib.Core.List.{List, [], ◌++◌}
 use lib.ListN.{length, drop}
 use Rattle.coder.proofs.Revisits.{Counts}
 use Rattle.engine.specs.Engine.{Engine}
-use Rattle.engine.specs.Coded.{shiftsOf}
+use Rattle.engine.specs.Coded.{shifts_of}
 
 pub record IsEngine (E : Engine) : Type 1 where
   -- a pel put in is the writer's, and the bytes before stay before; nothing else looks at them
@@ -14,10 +14,10 @@ pub record IsEngine (E : Engine) : Type 1 where
       → E.writer.put q e (E.stands c xs) ≡ E.stands d (xs ++ ys)
   pub moves : (q : ℕ) (e : Bool) (c : E.Registers) (xs : List ℕ)
       → E.writer.moves q e (E.stands c xs) ≡ E.writer.moves q e (E.stands c [])
-  pub count : (c : E.Registers) (xs : List ℕ) → E.writer.count (E.stands c xs) ≡ shiftsOf E c
+  pub count : (c : E.Registers) (xs : List ℕ) → E.writer.count (E.stands c xs) ≡ shifts_of E c
   -- twelve shifts a pel at the most, and each of them counts
   pub twelve : (q : ℕ) (e : Bool) (c d : E.Registers) (ys : List ℕ) → E.Puts q e c d ys
-      → shiftsOf E d ≤ shiftsOf E c + 12
+      → shifts_of E d ≤ shifts_of E c + 12
   pub counts : Counts E.writer
   -- ready registers and lawful entries stay so
   pub ready : (e : ℕ) (b : Bool) (c d : E.Registers) (ys : List ℕ) → E.Lawful e → E.Ready c

@@ -10,16 +10,16 @@ use lib.Dec.{eqb}
 use borrow.Author.Tests.{eq-eqb, ne_eqb}
 use Rattle.coder.specs.Writing.{counted, after, step, Stage}
 use Rattle.coder.specs.Page.{Page, context_of, entry_at, size, sense, move}
-use Rattle.coder.specs.Reading.{Reader, pelOf, readPels}
+use Rattle.coder.specs.Reading.{Reader, pel_of, read_pels}
 use Rattle.engine.specs.Engine.{Engine}
-use Rattle.engine.specs.Coded.{Gives, LawfulTable, Pelled, pages, stageOf, page_of, Coded}
+use Rattle.engine.specs.Coded.{Gives, LawfulTable, Pelled, pages, stage_of, page_of, Coded}
 use Rattle.engine.specs.Followed.{matches, Told, reads, Followed}
 use Rattle.engine.proofs.Engine.{IsEngine}
 use Rattle.engine.proofs.Coded.{page-within, page-lawful, pelled-quiet, coded_none, coded-pel, coded-append}
 use Rattle.engine.proofs.Matching.{with-true, and_assoc, matches-append}
 
 -- the pel that was told is expected exactly where the reader said so
-told-again : (s : ℕ) (b : Bool) → s ≤ 1 → eqb (pelOf s b) s ≡ b
+told-again : (s : ℕ) (b : Bool) → s ≤ 1 → eqb (pel_of s b) s ≡ b
 told-again s true h = eq-eqb s s refl
 told-again s false h = ne_eqb (1 - s) s (λ e. omega arith)
 
@@ -80,14 +80,14 @@ module _ (E : Engine) (K : IsEngine E) (R : Reader) where
               ap (move E.scheme width under p) (k.moves
               ∙ ap (λ (z : Bool). E.writer.moves (E.scheme.size e) z (E.stands c [])) (sym same))
               ∙ ap (λ (t : Stage (pages E width) E.writer). t.model)
-              (sym (ap (λ (m : Page). step (pages E width) E.writer (stageOf E width m (E.stands c []) n) p)
+              (sym (ap (λ (m : Page). step (pages E width) E.writer (stage_of E width m (E.stands c []) n) p)
               within-row) ∙ coded-here.stage [])
 
           one-read : (j : ℕ) → reads E R width (suc j) (page_of E width table above this) r ≡ p ∷ reads E R width j then s
-          unfolding readPels size sense entry_at context_of
+          unfolding read_pels size sense entry_at context_of
           one-read j =
               ap (λ (m : Page). reads E R width (suc j) m r) within-row
-              ∙ ap (λ (z : Bool). pelOf (e % 2) z ∷ reads E R width j (move E.scheme width under (pelOf (e % 2) z)
+              ∙ ap (λ (z : Bool). pel_of (e % 2) z ∷ reads E R width j (move E.scheme width under (pel_of (e % 2) z)
               (R.moves (E.scheme.size e) z r)) (R.take (E.scheme.size e) z r)) (sym k.asked)
               ∙ ap (λ (z : ℕ). z ∷ reads E R width j (move E.scheme width under z
               (R.moves (E.scheme.size e) b r)) (R.take (E.scheme.size e) b r)) (sym k.told)

@@ -11,16 +11,16 @@ use lib.Seq.{length-take-le, take-suc, drop-cons}
 use lib.Dec.{ltb, eqb}
 use borrow.Author.Tests.{ltb-true, eqb-true, lt-ltb, eq-eqb}
 use Rattle.ground.proofs.Bools.{both}
-use Rattle.engine.specs.Followed.{matchAt, matches}
+use Rattle.engine.specs.Followed.{match_at, matches}
 
-pub match-first : (code : List ℕ) (at b : ℕ) → at ≡ 0 → true ≡ matchAt code at b
-unfolding matchAt
+pub match-first : (code : List ℕ) (at b : ℕ) → at ≡ 0 → true ≡ match_at code at b
+unfolding match_at
 match-first code zero b e = refl
 match-first code (suc n) b e = absurd (omega arith)
 
 pub match-later : (code : List ℕ) (at b : ℕ) (r : Bool) → (at ≡ 0 → ⊥)
-    → (ltb (at - 1) (length code) && eqb (get_or code (at - 1) 0) b) ≡ r → r ≡ matchAt code at b
-unfolding matchAt
+    → (ltb (at - 1) (length code) && eqb (get_or code (at - 1) 0) b) ≡ r → r ≡ match_at code at b
+unfolding match_at
 match-later code zero b r h e = absurd (h refl)
 match-later code (suc n) b r h e = sym e ∙ ap (λ (k : ℕ). ltb k (length code) && eqb (get_or code k 0) b) (less n)
   where
@@ -40,10 +40,10 @@ pub matches-append : (code : List ℕ) (at : ℕ) (xs ys : List ℕ) → matches
 unfolding matches
 matches-append code at [] ys = ap (λ (k : ℕ). matches code k ys) (sym (add-zero at))
 matches-append code at (x ∷ xs) ys =
-    ap (λ (b : Bool). matchAt code at x && b) (matches-append code (suc at) xs ys
+    ap (λ (b : Bool). match_at code at x && b) (matches-append code (suc at) xs ys
     ∙ ap (λ (k : ℕ). matches code (suc at) xs && matches code k ys) (suc-add at (length xs)
     ∙ sym (add-suc at (length xs))))
-    ∙ sym (and_assoc (matchAt code at x) (matches code (suc at) xs) (matches code (at + suc (length xs)) ys))
+    ∙ sym (and_assoc (match_at code at x) (matches code (suc at) xs) (matches code (at + suc (length xs)) ys))
 
 -- one byte more of a list
 pub matches-next : (code xs : List ℕ) (at i : ℕ) (good same same' : Bool) → i < length xs
@@ -59,7 +59,7 @@ matches-next code xs at i good same same' h e f =
 -- ---- all of them
 same_from : (code : List ℕ) (n : ℕ) (bs : List ℕ) → matches code (suc n) bs ≡ true → n + length bs ≡ length code
     → drop n code ≡ bs
-unfolding matches matchAt
+unfolding matches match_at
 same_from code n [] e l = drop_of_length-le code {i = n} (omega arith)
 same_from code n (b ∷ bs) e l =
     let k = both (ltb n (length code) && eqb (get_or code n 0) b) (matches code (suc (suc n)) bs) e in
@@ -69,7 +69,7 @@ same_from code n (b ∷ bs) e l =
 
 from-same : (code : List ℕ) (n : ℕ) (bs : List ℕ) → drop n code ≡ bs → n + length bs ≡ length code
     → matches code (suc n) bs ≡ true
-unfolding matches matchAt
+unfolding matches match_at
 from-same code n [] e l = refl
 from-same code n (b ∷ bs) e l =
     let h : n < length code = omega arith in
@@ -80,7 +80,7 @@ from-same code n (b ∷ bs) e l =
 -- all of them agreed, and there are as many as the code has
 pub agreed : (code all : List ℕ) → 1 ≤ length all → (matches code 0 all && eqb (length all - 1) (length code)) ≡ true
     → drop 1 all ≡ code
-unfolding matches matchAt
+unfolding matches match_at
 agreed code [] h e = absurd (omega arith)
 agreed code (z ∷ bs) h e =
     let k = both (matches code 1 bs) (eqb (suc (length bs) - 1) (length code)) e in
@@ -88,7 +88,7 @@ agreed code (z ∷ bs) h e =
 
 pub agrees : (code all : List ℕ) → 1 ≤ length all → drop 1 all ≡ code
     → (matches code 0 all && eqb (length all - 1) (length code)) ≡ true
-unfolding matches matchAt
+unfolding matches match_at
 agrees code [] h e = absurd (omega arith)
 agrees code (z ∷ bs) h e =
     let l : length bs ≡ length code = ap length e in

@@ -15,13 +15,13 @@ pub record Gives (R : Type 0) : Type 0 where
   pub bytes : List ℕ
 
 -- a row begins, under the row above
-abbrev pub rowPage : List ℕ → List ℕ → Page
-rowPage table above = record { table = table; above = above; this = [] }
+abbrev pub row_page : List ℕ → List ℕ → Page
+row_page table above = record { table = table; above = above; this = [] }
 
 module _ (E : Engine) where
   -- the shifts so far
-  abbrev pub shiftsOf : E.Registers → ℕ
-  shiftsOf c = E.writer.count (E.stands c [])
+  abbrev pub shifts_of : E.Registers → ℕ
+  shifts_of c = E.writer.count (E.stands c [])
 
   -- whether a pel shifts, in a context whose entry is e
   abbrev pub shifted_by : E.Registers → ℕ → Bool → Bool
@@ -46,8 +46,8 @@ module _ (E : Engine) where
     pages = page E.scheme width
 
     -- where a band stands: the page, the writer, the pels revisited
-    abbrev pub stageOf : Page → E.writer.State → ℕ → Stage pages E.writer
-    stageOf m w n = record { model = m; writer = w; revisits = n }
+    abbrev pub stage_of : Page → E.writer.State → ℕ → Stage pages E.writer
+    stage_of m w n = record { model = m; writer = w; revisits = n }
 
     -- the page within a row, or with the row that is now full above
     abbrev pub page_of : List ℕ → List ℕ → List ℕ → Page
@@ -61,12 +61,12 @@ module _ (E : Engine) where
     -- bytes were settled before, and settle these
     pub record Coded (m₀ : Page) (c₀ : E.Registers) (n₀ : ℕ) (ps : List ℕ) (m : Page) (c : E.Registers) (n : ℕ)
         (settled : List ℕ) : Type 0 where
-      pub stage : (xs : List ℕ) → through (stageOf m₀ (E.stands c₀ xs) n₀) ps
-          ≡ stageOf m (E.stands c (xs ++ settled)) n
+      pub stage : (xs : List ℕ) → through (stage_of m₀ (E.stands c₀ xs) n₀) ps
+          ≡ stage_of m (E.stands c (xs ++ settled)) n
       pub few : length settled ≤ 2 * length ps
       pub lawful : LawfulTable m.table
       pub ready : E.Ready c
-      pub count : shiftsOf c ≤ shiftsOf c₀ + 12 * length ps
+      pub count : shifts_of c ≤ shifts_of c₀ + 12 * length ps
 
     -- and those bytes are stored at their place
     pub record Stored (m₀ : Page) (c₀ : E.Registers) (n₀ : ℕ) (out₀ : List ℕ) (at₀ : ℕ) (ps : List ℕ) (m : Page)

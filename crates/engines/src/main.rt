@@ -1,9 +1,9 @@
 // Bands on a new page, written by the first engine and by the second: each code in hexadecimal, its S and its pels
 // revisited.
 ghost use Rattle.std.specs.Prelude.{◌≡◌, ◌*◌, ◌≤◌, length};
-ghost use Rattle.limits.specs.Limits.{maxWidth, maxRows};
+ghost use Rattle.limits.specs.Limits.{max_width, max_rows};
 ghost use Rattle.estimate.specs.Estimate.{LawfulTable};
-ghost use Rattle.template.specs.Pels.{rowBytes};
+ghost use Rattle.template.specs.Pels.{row_bytes};
 
 use estimate::Table;
 use limits::{CONTEXTS, ROW};
@@ -32,8 +32,8 @@ fn fresh() -> Table
 
 // One band by both.
 fn both(name: &[u8], width: usize, rows: usize, pels: &[u8])
-    requires { (1 ≤ width) × (width ≤ maxWidth) × (1 ≤ rows) × (rows ≤ maxRows)
-        × (length pels.now ≡ rows * rowBytes width) }
+    requires { (1 ≤ width) × (width ≤ max_width) × (1 ≤ rows) × (rows ≤ max_rows)
+        × (length pels.now ≡ rows * row_bytes width) }
 {
     let table = fresh();
     let last = [0u8; ROW];

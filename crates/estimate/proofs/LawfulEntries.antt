@@ -12,7 +12,7 @@ use borrow.Author.Tests.{eq-eqb, ne_eqb}
 use Rattle.ground.proofs.Tests.{by_cond, neqb→ne}
 use Rattle.ground.proofs.Tables.{at_each, and_left, and_right}
 use Rattle.limits.specs.Limits.{contexts}
-use Rattle.estimate.specs.Estimate.{rows, rowOf, rise, fall, flip, next, index_of, senseOf, fresh, LawfulEntry}
+use Rattle.estimate.specs.Estimate.{rows, row_of, rise, fall, flip, next, index_of, sense_of, fresh, LawfulEntry}
 
 -- ---- the values
 in_range : ℕ → ℕ → Bool
@@ -29,8 +29,8 @@ sized-by q t =
       small = leb→le q 0xAC1 (and_right (leb 1 q) (leb q 0xAC1) t);
     }
 
-pub row_sized : (e : ℕ) → Sized (rowOf e)
-unfolding rowOf in_range
+pub row_sized : (e : ℕ) → Sized (row_of e)
+unfolding row_of in_range
 row_sized e = go (dec_lt (index_of e) 30)
   where
     go : Dec (index_of e < 30) → Sized (get_or rows (index_of e) 1)
@@ -49,7 +49,7 @@ flip-bit i s h = by_cond (λ (k : ℕ). k ≤ 1) (lib.Dec.eqb i 0) (1 - s) s (λ
 
 fall-lawful : (e : ℕ) → LawfulEntry e → LawfulEntry (next false e)
 unfolding next
-fall-lawful e h = omega (arith, flip-bit (index_of e) (senseOf e) (omega arith))
+fall-lawful e h = omega (arith, flip-bit (index_of e) (sense_of e) (omega arith))
 
 pub next-lawful : (b : Bool) (e : ℕ) → LawfulEntry e → LawfulEntry (next b e)
 next-lawful true e h = rise-lawful e
@@ -88,7 +88,7 @@ next-fall e f h k = let l : fall (e / 2) ≤ e / 2 = fall-small (e / 2) in
 
 -- ---- tables
 -- A fresh table has 128 contexts, every one index 0 and sense 0.
-pub fresh-entry : (cx : ℕ) → cx < contexts → (index_of (get_or fresh cx 0) ≡ 0) × (senseOf (get_or fresh cx 0) ≡ 0)
+pub fresh-entry : (cx : ℕ) → cx < contexts → (index_of (get_or fresh cx 0) ≡ 0) × (sense_of (get_or fresh cx 0) ≡ 0)
 unfolding fresh
 fresh-entry cx h =
     let e : get_or (replicate contexts 0) cx 0 ≡ zero = get_or-replicate contexts cx 0 0 h in

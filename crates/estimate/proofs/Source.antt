@@ -2,10 +2,10 @@
 use mathlib.Core.Path.{◌≡◌, refl}
 use Prim.Native.Nat.{◌-◌}
 use mathlib.Core.List.{map}
-use Rattle.estimate.specs.Estimate.{rowOf, rise, fall, flip}
-use Rattle.estimate.specs.Source.{source, ruled, numbersFrom}
+use Rattle.estimate.specs.Estimate.{row_of, rise, fall, flip}
+use Rattle.estimate.specs.Source.{source, ruled, numbers_from}
 
 -- Source document 000's table agrees after its left shift of three places.
-pub agrees : source ≡ map ruled (numbersFrom 0 30)
-unfolding source ruled numbersFrom rowOf rise fall flip
+pub agrees : source ≡ map ruled (numbers_from 0 30)
+unfolding source ruled numbers_from row_of rise fall flip
 agrees = refl

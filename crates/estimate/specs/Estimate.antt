@@ -18,12 +18,12 @@ abbrev pub index_of : ℕ → ℕ
 index_of e = e / 2
 
 -- the sense of an entry: the pel value expected
-abbrev pub senseOf : ℕ → ℕ
-senseOf e = e % 2
+abbrev pub sense_of : ℕ → ℕ
+sense_of e = e % 2
 
 -- the row's value (past the table, where no lawful entry is: 1)
-unfoldable pub rowOf : ℕ → ℕ
-rowOf e = get_or rows (index_of e) 1
+unfoldable pub row_of : ℕ → ℕ
+row_of e = get_or rows (index_of e) 1
 
 -- After a renormalisation on the expected pel the index rises by 1; 29 stays 29.
 unfoldable pub rise : ℕ → ℕ
@@ -40,8 +40,8 @@ flip i sense = cond (eqb i 0) (1 - sense) sense
 
 -- the entry after a renormalisation on the expected pel, and on the other
 unfoldable pub next : Bool → ℕ → ℕ
-next true e = entry_of (rise (index_of e)) (senseOf e)
-next false e = entry_of (index_of e - fall (index_of e)) (flip (index_of e) (senseOf e))
+next true e = entry_of (rise (index_of e)) (sense_of e)
+next false e = entry_of (index_of e - fall (index_of e)) (flip (index_of e) (sense_of e))
 
 -- a lawful entry has an index of at most 29
 abbrev pub LawfulEntry : ℕ → Type 0

@@ -1,6 +1,6 @@
 -- Document 01: "Source document 000's table agrees after its left shift of three places." Assumes nothing.
 use Rattle.std.specs.Prelude.{ℕ, zero, suc, ◌-◌, ◌*◌, List, [], ◌∷◌}
-use Rattle.estimate.specs.Estimate.{rowOf, entry_of, rise, fall, flip}
+use Rattle.estimate.specs.Estimate.{row_of, entry_of, rise, fall, flip}
 
 -- a row there: its value, the next rows after the expected and after the unexpected pel, and whether the sense is
 -- switched (1) then
@@ -26,9 +26,9 @@ source =
 
 -- the same by document 01's rules; a sense of 0 that flips is 1
 unfoldable pub ruled : ℕ → Row
-ruled i = row (8 * rowOf (entry_of i 0)) (rise i) (i - fall i) (flip i 0)
+ruled i = row (8 * row_of (entry_of i 0)) (rise i) (i - fall i) (flip i 0)
 
 -- n numbers from i on
-unfoldable pub numbersFrom : ℕ → ℕ → List ℕ
-numbersFrom i zero = []
-numbersFrom i (suc n) = i ∷ numbersFrom (suc i) n
+unfoldable pub numbers_from : ℕ → ℕ → List ℕ
+numbers_from i zero = []
+numbers_from i (suc n) = i ∷ numbers_from (suc i) n

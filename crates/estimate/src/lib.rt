@@ -1,6 +1,6 @@
 // A table of learned entries, the thirty rows' values, and the next entries.
 ghost use Rattle.std.specs.Prelude.{◌≡◌, ◌*◌, ◌≤◌};
-ghost use Rattle.estimate.specs.Estimate.{rowOf, fall, next, fresh, LawfulEntry};
+ghost use Rattle.estimate.specs.Estimate.{row_of, fall, next, fresh, LawfulEntry};
 
 use limits::CONTEXTS;
 
@@ -27,7 +27,7 @@ impl Table {
 // over five bits, all of whose numbers have an arm, so that no pel asks whether its entry is in the table.
 pub fn row_of(e: u8) -> u64
     requires { LawfulEntry e }
-    ensures { result ≡ rowOf e }
+    ensures { result ≡ row_of e }
 {
     let i = (e / 2) % 32;
     match i {

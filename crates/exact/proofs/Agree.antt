@@ -11,7 +11,7 @@ use Rattle.ground.proofs.Tests.{by_cond, by-cond₂}
 use Rattle.octets.specs.Unit.{unit}
 use Rattle.octets.proofs.Unit.{unit-pred, unit-zero}
 use Rattle.interval.specs.declared.Interval.{Interval}
-use Rattle.interval.specs.Interval.{Decision, whole, upperPart, lowerPart, part_of, doubled, grown, coded}
+use Rattle.interval.specs.Interval.{Decision, whole, upper_part, lower_part, part_of, doubled, grown, coded}
 use Rattle.octets.specs.Octets.{Registers, at, start, bits, carried, byte, due, double, shifts, part, pel, run, pad}
 use Rattle.octets.specs.Octets.{bytes}
 use Rattle.octets.specs.Fit.{Fit, Rest, Ready}
@@ -116,8 +116,8 @@ same-shifts (suc n) w e r m =
 same-part : (d : Decision) (w : Registers) (e : Interval) → Same w e → Same (part d w) (part_of d e)
 unfolding bytes
 same-part d w e m =
-    by-cond₂ (λ (i j : Interval). Same (at i w) j) d.expected (upperPart d.q w.interval)
-    (lowerPart d.q w.interval) (upperPart d.q e) (lowerPart d.q e)
+    by-cond₂ (λ (i j : Interval). Same (at i w) j) d.expected (upper_part d.q w.interval)
+    (lower_part d.q w.interval) (upper_part d.q e) (lower_part d.q e)
     (λ t. record {
       agree = record { sum = omega (arith, m.agree.sum); reach = m.agree.reach };
       wide = ap (λ (k : ℕ). k - d.q) m.wide;

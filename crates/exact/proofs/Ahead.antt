@@ -13,7 +13,7 @@ use Rattle.ground.proofs.Tests.{by_cond, neqb→ne}
 use Rattle.octets.specs.Unit.{unit}
 use Rattle.octets.proofs.Unit.{unit-pred, unit-zero, unit-pos}
 use Rattle.interval.specs.declared.Interval.{Interval}
-use Rattle.octets.specs.Octets.{Registers, bits, carried, byte, double, pad, pads, lastByte, cover, bytes, follows}
+use Rattle.octets.specs.Octets.{Registers, bits, carried, byte, double, pad, pads, last_byte, cover, bytes, follows}
 use Rattle.octets.specs.Octets.{ended}
 use Rattle.octets.proofs.Fit.{upper, lower, Byte, made, byte-until, byte-few, byte-scale}
 use Rattle.octets.specs.Fit.{Fit, Rest}
@@ -220,7 +220,7 @@ ahead-pads (suc j) w all n f e i =
     let r : Rest w = record { fit = f; wait = omega arith } in
     ahead-pad w all n r (ahead-pads j (pad w) all n (fit-pad w r) (omega arith) i)
 
-ahead-last : (w : Registers) (all : List ℕ) (n : ℕ) → Rest w → 1 ≤ n → Ahead (lastByte w) all (n - (lastByte w).until)
+ahead-last : (w : Registers) (all : List ℕ) (n : ℕ) → Rest w → 1 ≤ n → Ahead (last_byte w) all (n - (last_byte w).until)
     → Ahead w all n
 ahead-last w all n r h i =
     let k : Filled (pads w.until w) = filled w.until w r.fit refl in
@@ -277,8 +277,8 @@ pub ahead-cover : (j r : ℕ) (w : Registers) → Rest w → Tail r w → r ≤ 
 unfolding cover
 ahead-cover zero r w f k h = ahead-stop w r f (omega arith) (k.clear (omega arith))
 ahead-cover (suc j) r w f k h =
-    by_cond (λ (v : Registers). Ahead w (ended v) r) (eqb r 0) w (cover j (r - (lastByte w).until) (lastByte w))
+    by_cond (λ (v : Registers). Ahead w (ended v) r) (eqb r 0) w (cover j (r - (last_byte w).until) (last_byte w))
     (λ t. ahead-stop w r f (eqb→eq r 0 t) (k.clear (eqb→eq r 0 t)))
     (λ t. ahead-last w _ r f (pos_of_ne-zero (neqb→ne r 0 t))
-    (ahead-cover j (r - (lastByte w).until) (lastByte w) (rest-last w f) (tail-last r w f k)
+    (ahead-cover j (r - (last_byte w).until) (last_byte w) (rest-last w f) (tail-last r w f k)
     (omega (arith, byte-few (pads w.until w)))))

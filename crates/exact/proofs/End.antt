@@ -12,7 +12,7 @@ use lib.Pow.{pow-add, pow_pos}
 use Rattle.ground.proofs.Tests.{by_cond}
 use Rattle.octets.specs.Unit.{unit}
 use Rattle.interval.specs.Interval.{Decision, whole}
-use Rattle.octets.specs.Octets.{Registers, start, bits, byte, run, pad, pads, lastByte, cover, finish}
+use Rattle.octets.specs.Octets.{Registers, start, bits, byte, run, pad, pads, last_byte, cover, finish}
 use Rattle.octets.specs.Octets.{bytes, follows, ended}
 use Rattle.octets.specs.Fit.{Fit, Rest}
 use Rattle.octets.proofs.Fit.{Byte, made, byte-few, AllSized, ready-run, ready-start}
@@ -32,7 +32,7 @@ agree-pads (suc n) w low m f e g =
     (omega arith) (agree-pad w low m r g) in
     subst₂ (λ (x y : ℕ). Agree (pads n (pad w)) x y) (double-first low n) (omega arith) i
 
-agree-last : (w : Registers) (low m : ℕ) → Rest w → Agree w low m → Agree (lastByte w) (low * 2 ^ w.until)
+agree-last : (w : Registers) (low m : ℕ) → Rest w → Agree w low m → Agree (last_byte w) (low * 2 ^ w.until)
     (m + w.until)
 agree-last w low m r g =
     let k : Filled (pads w.until w) = filled w.until w r.fit refl in
@@ -46,9 +46,9 @@ agree-cover : (n r : ℕ) (w : Registers) (low m : ℕ) → Rest w → Agree w l
 unfolding cover
 agree-cover zero r w low m f g = (0, rw (add-zero, mul-one) g)
 agree-cover (suc n) r w low m f g =
-    by_cond (λ (v : Registers). Later v low m) (eqb r 0) w (cover n (r - (lastByte w).until) (lastByte w))
+    by_cond (λ (v : Registers). Later v low m) (eqb r 0) w (cover n (r - (last_byte w).until) (last_byte w))
     (λ t. (0, rw (add-zero, mul-one) g))
-    (λ t. more _ low m w.until (agree-cover n (r - (lastByte w).until) (lastByte w) (low * 2 ^ w.until)
+    (λ t. more _ low m w.until (agree-cover n (r - (last_byte w).until) (last_byte w) (low * 2 ^ w.until)
     (m + w.until) (rest-last w f) (agree-last w low m f g)))
   where
     more : (v : Registers) (low m k : ℕ) → Later v (low * 2 ^ k) (m + k) → Later v low m
@@ -107,7 +107,7 @@ tail-made r w z m k =
           m.part;
     }
 
-pub tail-last : (r : ℕ) (w : Registers) → Rest w → Tail r w → Tail (r - (lastByte w).until) (lastByte w)
+pub tail-last : (r : ℕ) (w : Registers) → Rest w → Tail r w → Tail (r - (last_byte w).until) (last_byte w)
 tail-last r w f k =
     let p : Filled (pads w.until w) = filled w.until w f.fit refl in
     tail-made r (pads w.until w) p.due (made _ p.fit p.due) (tail-pads w.until r w refl f.fit.few k)
@@ -116,9 +116,9 @@ cover-clear : (n r : ℕ) (w : Registers) → Rest w → Tail r w → r ≤ 7 * 
 unfolding cover
 cover-clear zero r w f k h = k.clear (omega arith)
 cover-clear (suc n) r w f k h =
-    by_cond (λ (v : Registers). v.interval.low ≡ 0) (eqb r 0) w (cover n (r - (lastByte w).until) (lastByte w))
+    by_cond (λ (v : Registers). v.interval.low ≡ 0) (eqb r 0) w (cover n (r - (last_byte w).until) (last_byte w))
     (λ t. k.clear (eqb→eq r 0 t))
-    (λ t. cover-clear n (r - (lastByte w).until) (lastByte w) (rest-last w f) (tail-last r w f k)
+    (λ t. cover-clear n (r - (last_byte w).until) (last_byte w) (rest-last w f) (tail-last r w f k)
     (omega (arith, byte-few (pads w.until w))))
 
 pub tail-start : (w : Registers) → Rest w → Tail (24 - w.until) w

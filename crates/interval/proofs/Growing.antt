@@ -5,7 +5,7 @@ use Prim.Native.Nat.{ℕ, zero, suc, ◌+◌, ◌*◌, ◌^◌, ◌≤◌, ◌<�
 use native.Mathlib.Nat.{mul-one, add-zero}
 use native.Mathlib.Omega.{arith}
 use lib.Dec.{ltb}
-use Rattle.limits.specs.Limits.{maxShifts}
+use Rattle.limits.specs.Limits.{max_shifts}
 use Rattle.ground.proofs.Tests.{by-cond₂, by_cond}
 use Rattle.interval.specs.declared.Interval.{Interval}
 use Rattle.interval.specs.Interval.{decision, part_of, doubled, grown, doublings}
@@ -53,10 +53,10 @@ pub record Fits (v : Interval) : Type 0 where
   pub some : 1 ≤ v.width
   pub small : v.width < 8192
   pub low : v.low < 2 ^ 26
-  pub count : v.count < maxShifts
+  pub count : v.count < max_shifts
 
 pub part-fits : (q : ℕ) (e : Bool) (i : Interval) → 4096 ≤ i.width → i.width < 8192 → 1 ≤ q → q ≤ 0xAC1
-    → i.low < 2 ^ 25 → i.count < maxShifts
+    → i.low < 2 ^ 25 → i.count < max_shifts
     → Fits (part_of (decision q e) i)
 part-fits q true i a b c d l n = record { some = omega arith; small = omega arith; low = omega arith; count = n }
 part-fits q false i a b c d l n = record { some = c; small = omega arith; low = omega arith; count = n }

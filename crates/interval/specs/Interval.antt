@@ -16,16 +16,16 @@ abbrev pub whole : Interval
 whole = record { low = 0; width = 0x1000; count = 0 }
 
 -- The expected pel takes the upper part: lower end up by Q, width A - Q.
-abbrev pub upperPart : ℕ → Interval → Interval
-upperPart q i = record { low = i.low + q; width = i.width - q; count = i.count }
+abbrev pub upper_part : ℕ → Interval → Interval
+upper_part q i = record { low = i.low + q; width = i.width - q; count = i.count }
 
 -- The unexpected pel takes the lower part: width Q, same lower end.
-abbrev pub lowerPart : ℕ → Interval → Interval
-lowerPart q i = record { low = i.low; width = q; count = i.count }
+abbrev pub lower_part : ℕ → Interval → Interval
+lower_part q i = record { low = i.low; width = q; count = i.count }
 
 -- the pel's part of the interval
 abbrev pub part_of : Decision → Interval → Interval
-part_of d i = cond d.expected (upperPart d.q i) (lowerPart d.q i)
+part_of d i = cond d.expected (upper_part d.q i) (lower_part d.q i)
 
 -- Both are doubled; each doubling is one shift.
 abbrev pub doubled : Interval → Interval

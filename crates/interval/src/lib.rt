@@ -1,6 +1,6 @@
 // The interval by value: one pel coded, the doublings counted.
 ghost use Rattle.std.specs.Prelude.{◌≡◌, ◌*◌, ◌≤◌, ◌<◌, ◌^◌};
-ghost use Rattle.limits.specs.Limits.{maxWidth, maxShifts};
+ghost use Rattle.limits.specs.Limits.{max_width, max_shifts};
 ghost use Rattle.interval.specs.Interval.{whole, decision, part_of, grown, doublings, coded};
 
 // The lower end (what of it is in no byte yet), the width, and the shifts so far.
@@ -29,7 +29,7 @@ pub fn shifts_for(width: u64) -> u64
 
 // How many of n expected pels of the size q fit into so much room.
 pub fn fits(n: usize, q: u64, room: u64) -> usize
-    requires { (n ≤ maxWidth) × (1 ≤ q) × (q ≤ 0xAC1) × (room < 8192) }
+    requires { (n ≤ max_width) × (1 ≤ q) × (q ≤ 0xAC1) × (room < 8192) }
     ensures { (result ≤ n) × (result * q ≤ room) }
 {
     if (n as u64) * q <= room {
@@ -70,7 +70,7 @@ impl Interval {
 
     // Both doubled while the width is below 1000 hex: all at once.
     pub fn grow(self) -> Coded
-        requires { (1 ≤ self.width) × (self.width < 8192) × (self.low < 2 ^ 26) × (self.count < maxShifts) }
+        requires { (1 ≤ self.width) × (self.width < 8192) × (self.low < 2 ^ 26) × (self.count < max_shifts) }
         ensures { (result.interval ≡ grown 12 self) × (result.shifts ≡ doublings 12 self.width) }
     {
         let k = shifts_for(self.width);
@@ -91,7 +91,7 @@ impl Interval {
     // One pel.
     pub fn code(self, q: u64, expected: bool) -> Coded
         requires { (0x1000 ≤ self.width) × (self.width < 8192) × (1 ≤ q) × (q ≤ 0xAC1) × (self.low < 2 ^ 25)
-            × (self.count < maxShifts) }
+            × (self.count < max_shifts) }
         ensures { (result.interval ≡ coded (decision q expected) self)
             × (result.shifts ≡ doublings 12 (part_of (decision q expected) self).width) }
     {

@@ -13,11 +13,11 @@ use Rattle.coder.specs.Writing.{Stage, step, after, opening}
 use Rattle.coder.specs.Page.{Page, context_of, entry_at, sense, taught, placed, move}
 use Rattle.estimate.specs.Estimate.{index_of, next}
 use Rattle.estimate.proofs.LawfulEntries.{next-lawful}
-use Rattle.template.specs.Pels.{rowBytes, row_at, bandTo, rowPadded, bandPadded}
-use Rattle.limits.specs.Limits.{lastBytes}
-use Rattle.band.specs.Band.{qScheme, qWriter, qPage, pageAt, white, lastRow, written}
+use Rattle.template.specs.Pels.{row_bytes, row_at, band_to, row_padded, band_padded}
+use Rattle.limits.specs.Limits.{last_bytes}
+use Rattle.band.specs.Band.{q_scheme, q_writer, q_page, page_at, white, last_row, written}
 use Rattle.desk.proofs.OpenPages.{all-get}
-use Rattle.desk.specs.Lawful.{all, lowIndexes, is_zero, noStray}
+use Rattle.desk.specs.Lawful.{all, low_indexes, is_zero, no_stray}
 use Rattle.ground.proofs.Bools.{both, and-true}
 
 -- ---- the table
@@ -29,14 +29,14 @@ all_set p (x ∷ s) zero a h k = and-true (p a) (all p s) k (both (p x) (all p s
 all_set p (x ∷ s) (suc i) a h k =
     and-true (p x) (all p (set s i a)) (both (p x) (all p s) h).0 (all_set p s i a (both (p x) (all p s) h).1 k)
 
-abbrev lowIndex : ℕ → Bool
-lowIndex e = leb (index_of e) 29
+abbrev low_index : ℕ → Bool
+low_index e = leb (index_of e) 29
 
-entry_next : (b : Bool) (e : ℕ) → lowIndex e ≡ true → lowIndex (next b e) ≡ true
+entry_next : (b : Bool) (e : ℕ) → low_index e ≡ true → low_index (next b e) ≡ true
 entry_next b e h = le-leb (index_of (next b e)) 29 (next-lawful b e (leb-true (index_of e) 29 h))
 
 module _ (width : ℕ) where
-  placed-table : (table above this : List ℕ) → (placed qScheme width table above this).table ≡ table
+  placed-table : (table above this : List ℕ) → (placed q_scheme width table above this).table ≡ table
   unfolding placed
   placed-table table above this = go (eqb (length this) width)
     where
@@ -45,32 +45,32 @@ module _ (width : ℕ) where
       go true = refl
       go false = refl
 
-  taught-lawful : (m : Page) (p : ℕ) (b : Bool) → lowIndexes m.table ≡ true
-      → lowIndexes (taught qScheme width m p b) ≡ true
+  taught-lawful : (m : Page) (p : ℕ) (b : Bool) → low_indexes m.table ≡ true
+      → low_indexes (taught q_scheme width m p b) ≡ true
   unfolding taught entry_at
   taught-lawful m p true h =
-      all_set lowIndex m.table (context_of qScheme width m) _ h
-      (entry_next (eqb p (sense qScheme width m)) (get_or m.table (context_of qScheme width m) 0)
-      (all-get lowIndex m.table (context_of qScheme width m) 0 h refl))
+      all_set low_index m.table (context_of q_scheme width m) _ h
+      (entry_next (eqb p (sense q_scheme width m)) (get_or m.table (context_of q_scheme width m) 0)
+      (all-get low_index m.table (context_of q_scheme width m) 0 h refl))
   taught-lawful m p false h = h
 
-  after-lawful : (ps : List ℕ) (s : Stage (qPage width) qWriter) → lowIndexes s.model.table ≡ true
-      → lowIndexes (after (qPage width) qWriter s ps).model.table ≡ true
+  after-lawful : (ps : List ℕ) (s : Stage (q_page width) q_writer) → low_indexes s.model.table ≡ true
+      → low_indexes (after (q_page width) q_writer s ps).model.table ≡ true
   unfolding after move
   after-lawful [] s h = h
   after-lawful (p ∷ ps) s h =
-      after-lawful ps (step (qPage width) qWriter s p)
-      (subst (λ (t : List ℕ). lowIndexes t ≡ true)
-      (sym (placed-table (taught qScheme width s.model p _) s.model.above (s.model.this ++ (p ∷ []))))
+      after-lawful ps (step (q_page width) q_writer s p)
+      (subst (λ (t : List ℕ). low_indexes t ≡ true)
+      (sym (placed-table (taught q_scheme width s.model p _) s.model.above (s.model.this ++ (p ∷ []))))
       (taught-lawful s.model p _ h))
 
 -- the table after a band is lawful where the table before it was
-pub written_low : (width rows : ℕ) (table last band : List ℕ) → lowIndexes table ≡ true
-    → lowIndexes (written width rows table last band).table ≡ true
+pub written_low : (width rows : ℕ) (table last band : List ℕ) → low_indexes table ≡ true
+    → low_indexes (written width rows table last band).table ≡ true
 unfolding written
 written_low width rows table last band h =
-    after-lawful width (bandTo width band rows)
-    (opening (qPage width) qWriter (pageAt width table last)) h
+    after-lawful width (band_to width band rows)
+    (opening (q_page width) q_writer (page_at width table last)) h
 
 -- ---- the last row
 zero-all : (n : ℕ) → is_zero (replicate n 0) ≡ true
@@ -89,30 +89,30 @@ zero-get zero i = refl
 zero-get (suc n) zero = refl
 zero-get (suc n) (suc i) = zero-get n i
 
-padded-zero : (n w : ℕ) → rowPadded w (replicate n 0) ≡ true
-unfolding rowPadded
-padded-zero n w = eq-eqb (get_or (replicate n 0) (rowBytes w - 1) 0 % 2 ^ (8 * rowBytes w - w)) 0
-    (ap (λ (k : ℕ). k % 2 ^ (8 * rowBytes w - w)) (zero-get n (rowBytes w - 1)) ∙ zero-mod (2 ^ (8 * rowBytes w - w)))
+padded-zero : (n w : ℕ) → row_padded w (replicate n 0) ≡ true
+unfolding row_padded
+padded-zero n w = eq-eqb (get_or (replicate n 0) (row_bytes w - 1) 0 % 2 ^ (8 * row_bytes w - w)) 0
+    (ap (λ (k : ℕ). k % 2 ^ (8 * row_bytes w - w)) (zero-get n (row_bytes w - 1)) ∙ zero-mod (2 ^ (8 * row_bytes w - w)))
 
 -- a new page's last row has no stray bit
-pub white-clear : (width : ℕ) → noStray width white ≡ true
-unfolding noStray white
-white-clear width = and-true (rowPadded width (replicate lastBytes 0))
-    (is_zero (drop (rowBytes width) (replicate lastBytes 0))) (padded-zero lastBytes width)
-    (zero-drop lastBytes (rowBytes width))
+pub white-clear : (width : ℕ) → no_stray width white ≡ true
+unfolding no_stray white
+white-clear width = and-true (row_padded width (replicate last_bytes 0))
+    (is_zero (drop (row_bytes width) (replicate last_bytes 0))) (padded-zero last_bytes width)
+    (zero-drop last_bytes (row_bytes width))
 
 -- nor has the last row of a band whose padding bits are zero
-pub last-clear : (width rows : ℕ) (band : List ℕ) → 1 ≤ width → 1 ≤ rows → length band ≡ rows * rowBytes width
-    → bandPadded width band rows ≡ true → noStray width (lastRow width rows band) ≡ true
-unfolding noStray lastRow bandPadded rowPadded
+pub last-clear : (width rows : ℕ) (band : List ℕ) → 1 ≤ width → 1 ≤ rows → length band ≡ rows * row_bytes width
+    → band_padded width band rows ≡ true → no_stray width (last_row width rows band) ≡ true
+unfolding no_stray last_row band_padded row_padded
 last-clear width zero band w r l h = absurd (omega arith)
 last-clear width (suc n) band w r l h =
-    subst (λ (m : ℕ). (rowPadded width (row_at width band m ++ rest)
-    && is_zero (drop (rowBytes width) (row_at width band m ++ rest))) ≡ true) less
-    (and-true (rowPadded width (row ++ rest)) (is_zero (drop (rowBytes width) (row ++ rest)))
-    (rw (get_or-append row rest 0 (rowBytes width - 1) (omega (arith, wide)))
-    (both (bandPadded width band n) (rowPadded width row) h).1)
-    (rw (drop_at row rest (rowBytes width) wide) (zero-all (lastBytes - rowBytes width))))
+    subst (λ (m : ℕ). (row_padded width (row_at width band m ++ rest)
+    && is_zero (drop (row_bytes width) (row_at width band m ++ rest))) ≡ true) less
+    (and-true (row_padded width (row ++ rest)) (is_zero (drop (row_bytes width) (row ++ rest)))
+    (rw (get_or-append row rest 0 (row_bytes width - 1) (omega (arith, wide)))
+    (both (band_padded width band n) (row_padded width row) h).1)
+    (rw (drop_at row rest (row_bytes width) wide) (zero-all (last_bytes - row_bytes width))))
   where
     less : n ≡ suc n - 1
     less = omega arith
@@ -121,8 +121,8 @@ last-clear width (suc n) band w r l h =
     row = row_at width band n
 
     rest : List ℕ
-    rest = replicate (lastBytes - rowBytes width) 0
+    rest = replicate (last_bytes - row_bytes width) 0
 
-    wide : length row ≡ rowBytes width
-    wide = length-take-le (rowBytes width) (drop (n * rowBytes width) band)
-        (rw length-drop (omega (arith, suc-mul n (rowBytes width))))
+    wide : length row ≡ row_bytes width
+    wide = length-take-le (row_bytes width) (drop (n * row_bytes width) band)
+        (rw length-drop (omega (arith, suc-mul n (row_bytes width))))

@@ -13,11 +13,11 @@ use Rattle.desk.specs.declared.Key.{Key}
 use Rattle.desk.specs.Desk.{Page, Place, Desk}
 use Rattle.desk.specs.declared.Found.{Found}
 use Rattle.desk.specs.declared.Found.TheVariants.{At, Nothing}
-use Rattle.desk.specs.Places.{isUsed, isLearned, noPage, noPlace, sameKey, isPageOf, isTableOf, isFreePage, isFreePlace}
-use Rattle.desk.specs.Places.{pageFound, tableFound, freePageFound, freePlaceFound, isFound}
-use Rattle.desk.specs.Lawful.{lawfulPage, lawfulPlace}
+use Rattle.desk.specs.Places.{is_used, is_learned, no_page, no_place, same_key, is_page_of, is_table_of, is_free_page, is_free_place}
+use Rattle.desk.specs.Places.{page_found, table_found, free_page_found, free_place_found, is_found}
+use Rattle.desk.specs.Lawful.{lawful_page, lawful_place}
 use Rattle.desk.proofs.Standing.{found-page, found-table}
-use Rattle.desk.specs.Standing.{pageBy, tableBy, openPage, learnedTable}
+use Rattle.desk.specs.Standing.{page_by, table_by, open_page, learned_table}
 use Rattle.kept.proofs.Lists.{pick, pick-passes, pick_all, found-given, value_at, value_found}
 use Rattle.kept.proofs.View.{K, shelves, page-read, page-free, place-free, table-read}
 use Rattle.kept.proofs.Sound.{Sound}
@@ -27,63 +27,63 @@ abbrev pub cell_of : Desk → Key → Cell Table Page
 cell_of d k = cell_at K Table Page (shelves d) k
 
 module _ (d : Desk) (s : Sound d) (k : Key) where
-  page-pick : openPage d k ≡ pick (isPageOf k) d.pages
-  page-pick = go (pageFound d k) ∙ value_found (isPageOf k) noPage d.pages
+  page-pick : open_page d k ≡ pick (is_page_of k) d.pages
+  page-pick = go (page_found d k) ∙ value_found (is_page_of k) no_page d.pages
     where
-      go : (f : Found) → pageBy d f ≡ value_at f d.pages noPage
+      go : (f : Found) → page_by d f ≡ value_at f d.pages no_page
       go (At i) = refl
       go Nothing = refl
 
-  table-pick : learnedTable d k ≡ mapped (λ (q : Place). q.table) (pick (isTableOf k) d.places)
-  table-pick = go (tableFound d k) ∙ ap (mapped (λ (q : Place). q.table)) (value_found (isTableOf k) noPlace
+  table-pick : learned_table d k ≡ mapped (λ (q : Place). q.table) (pick (is_table_of k) d.places)
+  table-pick = go (table_found d k) ∙ ap (mapped (λ (q : Place). q.table)) (value_found (is_table_of k) no_place
       d.places)
     where
-      go : (f : Found) → tableBy d f ≡ mapped (λ (q : Place). q.table) (value_at f d.places noPlace)
+      go : (f : Found) → table_by d f ≡ mapped (λ (q : Place). q.table) (value_at f d.places no_place)
       go (At i) = refl
       go Nothing = refl
 
-  pub page-is : openPage d k ≡ (cell_of d k).page
+  pub page-is : open_page d k ≡ (cell_of d k).page
   unfolding shelves
   page-is = page-pick ∙ sym (page-read k d.pages)
 
-  pub learned-is : learnedTable d k ≡ (cell_of d k).learned
+  pub learned-is : learned_table d k ≡ (cell_of d k).learned
   unfolding shelves
   learned-is = table-pick ∙ sym (table-read k d.places s.fitting.lone-places)
 
-  pub page-found : isFound (pageFound d k) ≡ given (cell_of d k).page
-  page-found = sym (found-page d (pageFound d k)) ∙ ap given page-is
+  pub page-found : is_found (page_found d k) ≡ given (cell_of d k).page
+  page-found = sym (found-page d (page_found d k)) ∙ ap given page-is
 
-  pub table-found : isFound (tableFound d k) ≡ given (cell_of d k).learned
-  table-found = sym (found-table d (tableFound d k)) ∙ ap given learned-is
+  pub table-found : is_found (table_found d k) ≡ given (cell_of d k).learned
+  table-found = sym (found-table d (table_found d k)) ∙ ap given learned-is
 
-  pub page-free-found : isFound (freePageFound d) ≡ free K Page (shelves d).pageSlots
+  pub page-free-found : is_found (free_page_found d) ≡ free K Page (shelves d).page_slots
   unfolding shelves
-  page-free-found = found-given isFreePage d.pages 0 ∙ sym (page-free d.pages)
+  page-free-found = found-given is_free_page d.pages 0 ∙ sym (page-free d.pages)
 
-  pub place-free-found : isFound (freePlaceFound d) ≡ free K (Option Table) (shelves d).classPlaces
+  pub place-free-found : is_found (free_place_found d) ≡ free K (Option Table) (shelves d).class_places
   unfolding shelves
-  place-free-found = found-given isFreePlace d.places 0 ∙ sym (place-free d.places)
+  place-free-found = found-given is_free_place d.places 0 ∙ sym (place-free d.places)
 
   -- ---- the open page and the learned table are lawful
-  pub page-own : (p : Page) → openPage d k ≡ some p → (isUsed p.state ≡ true) × (sameKey p.key k ≡ true)
-      × (lawfulPage p ≡ true)
+  pub page-own : (p : Page) → open_page d k ≡ some p → (is_used p.state ≡ true) × (same_key p.key k ≡ true)
+      × (lawful_page p ≡ true)
   page-own p e =
-      let f : pick (isPageOf k) d.pages ≡ some p = sym page-pick ∙ e in
-      let u = both (isUsed p.state) (sameKey p.key k) (pick-passes (isPageOf k) d.pages p f) in
-      (u.0, u.1, pick_all lawfulPage (isPageOf k) d.pages p s.pages-lawful f)
+      let f : pick (is_page_of k) d.pages ≡ some p = sym page-pick ∙ e in
+      let u = both (is_used p.state) (same_key p.key k) (pick-passes (is_page_of k) d.pages p f) in
+      (u.0, u.1, pick_all lawful_page (is_page_of k) d.pages p s.pages-lawful f)
 
-  pub place-own : (t : Table) → learnedTable d k ≡ some t → (q : Place) × (q.table ≡ t)
-      × (isLearned q.state ≡ true) × (lawfulPlace q ≡ true)
-  place-own t h = go (pick (isTableOf k) d.places) refl (sym table-pick ∙ h)
+  pub place-own : (t : Table) → learned_table d k ≡ some t → (q : Place) × (q.table ≡ t)
+      × (is_learned q.state ≡ true) × (lawful_place q ≡ true)
+  place-own t h = go (pick (is_table_of k) d.places) refl (sym table-pick ∙ h)
     where
-      go : (o : Option Place) → pick (isTableOf k) d.places ≡ o → mapped (λ (q : Place). q.table) o ≡ some t
-          → (q : Place) × (q.table ≡ t) × (isLearned q.state ≡ true) × (lawfulPlace q ≡ true)
+      go : (o : Option Place) → pick (is_table_of k) d.places ≡ o → mapped (λ (q : Place). q.table) o ≡ some t
+          → (q : Place) × (q.table ≡ t) × (is_learned q.state ≡ true) × (lawful_place q ≡ true)
       go none f g = no_way (ap given (sym g))
       go (some q) f g =
           let e : q.table ≡ t = cc in (
             q,
             e,
-            (both (isLearned q.state) (sameKey q.key k) (pick-passes (isTableOf k) d.places q f)).0,
-            pick_all lawfulPlace
-                (isTableOf k) d.places q s.places-lawful f,
+            (both (is_learned q.state) (same_key q.key k) (pick-passes (is_table_of k) d.places q f)).0,
+            pick_all lawful_place
+                (is_table_of k) d.places q s.places-lawful f,
           )

@@ -9,36 +9,36 @@ use native.Mathlib.Omega.{arith}
 use Rattle.ground.specs.Options.{given}
 use Rattle.turns.specs.Service.{Kind, band}
 use Rattle.turns.proofs.Office.{Cell}
-use Rattle.turns.proofs.Shelves.{place_of, cell_at, no_slot, noClassPlace, own-cell}
+use Rattle.turns.proofs.Shelves.{place_of, cell_at, no_slot, no_class_place, own-cell}
 use Rattle.estimate.specs.declared.Table.{Table}
 use Rattle.band.specs.Band.{white, Reader}
 use Rattle.desk.specs.declared.Key.{Key}
 use Rattle.desk.specs.Desk.{Page, Desk, Outcome}
-use Rattle.desk.specs.Places.{zeroTable, unusedPage, freePlace, emptyDesk, sameKey, freePageFound, freePlaceFound}
-use Rattle.desk.specs.Places.{isFound}
-use Rattle.desk.specs.Lawful.{all, any, apart, lawfulPage, lawfulPlace, lawful}
+use Rattle.desk.specs.Places.{zero_table, unused_page, free_place, empty_desk, same_key, free_page_found, free_place_found}
+use Rattle.desk.specs.Places.{is_found}
+use Rattle.desk.specs.Lawful.{all, any, apart, lawful_page, lawful_place, lawful}
 use Rattle.desk.proofs.OpenPages.{key-only}
 use Rattle.desk.specs.Refusals.{refusal}
 use Rattle.desk.specs.Calls.{Call, looks, key_of, kind_of}
-use Rattle.desk.specs.Standing.{openPage, learnedTable, stand}
+use Rattle.desk.specs.Standing.{open_page, learned_table, stand}
 use Rattle.desk.specs.Tests.{tests}
 use Rattle.desk.specs.Effects.{Change, stays, Effect, effect, afterwards}
 use Rattle.desk.specs.Changes.{changed}
-use Rattle.desk.specs.Allowed.{done, unless, number, effectOn, outcome, lent}
+use Rattle.desk.specs.Allowed.{done, unless, number, effect_on, outcome, lent}
 use Rattle.desk.proofs.KindLaws.{KindLaw, kind-law}
 use Rattle.kept.proofs.View.{K, shelves, Shelf}
 use Rattle.kept.proofs.Sound.{Sound, lawful-sound, sound-lawful}
 use Rattle.kept.proofs.Cells.{cell_of, page-is, learned-is}
 use Rattle.kept.proofs.ChangesKept.{slot-room, place-room}
-use Rattle.kept.proofs.Stored.{Stored, stored-sound, stored-others, cellAfter, changed-stored, Clean}
+use Rattle.kept.proofs.Stored.{Stored, stored-sound, stored-others, cell_after, changed-stored, Clean}
 use Rattle.kept.proofs.Fair.{under, owned, Fair}
-use Rattle.kept.proofs.Room.{roomy, pageWanted, placeWanted, withRoom}
+use Rattle.kept.proofs.Room.{roomy, page_wanted, place_wanted, with_room}
 use Rattle.kept.proofs.Law.{CallLaw, law}
 use Rattle.kept.specs.Kept.{Keeps, SameFor}
 
 -- the empty desk is lawful
-pub empty-lawful : lawful emptyDesk ≡ true
-unfolding lawful emptyDesk unusedPage freePlace zeroTable white all any apart lawfulPage lawfulPlace
+pub empty-lawful : lawful empty_desk ≡ true
+unfolding lawful empty_desk unused_page free_place zero_table white all any apart lawful_page lawful_place
 empty-lawful = refl
 
 -- what a call meets is what stands under its key
@@ -52,33 +52,33 @@ sound-is d k = refl
 
 -- the room that is wanted
 pub slot-wanted : (d : Desk) (s : Sound d) (k : Key) (p : Change Page) (t : Change Table)
-    → no_slot K Table Page (shelves d) k (cellAfter (cell_of d k) p t)
+    → no_slot K Table Page (shelves d) k (cell_after (cell_of d k) p t)
     ≡ ((not (given (stand d k).page) && given (afterwards
-    (stand d k).page p)) && not (stand d k).pageFree)
+    (stand d k).page p)) && not (stand d k).page_free)
 unfolding stand
-slot-wanted d s k p t = slot-room d s k (cellAfter (cell_of d k) p t)
+slot-wanted d s k p t = slot-room d s k (cell_after (cell_of d k) p t)
     ∙ ap (λ (o : Option Page). (not (given o) && given (afterwards o p)) && not
-    (isFound (freePageFound d))) (sym (page-is d s k))
+    (is_found (free_page_found d))) (sym (page-is d s k))
 
 pub place-wanted : (d : Desk) (s : Sound d) (k : Key) (p : Change Page) (t : Change Table)
-    → noClassPlace K Table Page (shelves d) k (cellAfter (cell_of d k) p t)
+    → no_class_place K Table Page (shelves d) k (cell_after (cell_of d k) p t)
     ≡ ((not (given (place_of (stand d k).learned (stand d k).page))
     && given (place_of (afterwards (stand d k).learned t) (afterwards
-    (stand d k).page p))) && not (stand d k).placeFree)
+    (stand d k).page p))) && not (stand d k).place_free)
 unfolding stand
 place-wanted d s k p t =
-    place-room d s k (cellAfter (cell_of d k) p t)
+    place-room d s k (cell_after (cell_of d k) p t)
     ∙ ap (λ (x : Cell Table Page). (not (given (place_of x.learned x.page))
     && given (place_of (afterwards x.learned t) (afterwards
-    x.page p))) && not (isFound (freePlaceFound d))) (sym (under-is d s k))
+    x.page p))) && not (is_found (free_place_found d))) (sym (under-is d s k))
 
 keeps_same : (k : Key) (d : Desk) → lawful d ≡ true → Keeps k d d
-keeps_same k d h = record { stays-lawful = h; others_same = λ j n. record { page = refl; table = refl } }
+keeps_same k d h = record { stays_lawful = h; others_same = λ j n. record { page = refl; table = refl } }
 
 keeps-stored : (d d' : Desk) (k : Key) (y : Cell Table Page) → Sound d → Stored d d' k y → Keeps k d d'
 keeps-stored d d' k y s c =
     let s' : Sound d' = stored-sound d d' k y s c in
-    record { stays-lawful = sound-lawful d' s'; others_same = λ j n. by-cell j s' (stored-others d d' k y s c j n) }
+    record { stays_lawful = sound-lawful d' s'; others_same = λ j n. by-cell j s' (stored-others d d' k y s c j n) }
   where
     by-cell : (j : Key) → Sound d' → cell_of d' j ≡ cell_of d j → SameFor j d d'
     by-cell j s' e =
@@ -97,7 +97,7 @@ pub record Roomed (n : ℕ) (p q : Bool) : Type 0 where
   pub page : p ≡ false
   pub place : q ≡ false
 
-roomed : (n : ℕ) (p q : Bool) → withRoom n p q ≡ 0 → Roomed n p q
+roomed : (n : ℕ) (p q : Bool) → with_room n p q ≡ 0 → Roomed n p q
 roomed zero true q e = absurd (omega arith)
 roomed zero false true e = absurd (omega arith)
 roomed zero false false e = record { rest = refl; page = refl; place = refl }
@@ -110,21 +110,21 @@ module _ (R : Reader) (d : Desk) (h : lawful d ≡ true) (c : Call) where
 
   -- what the call does, where it is accepted
   abbrev e : Effect
-  e = effectOn R.finds d c
+  e = effect_on R.finds d c
 
   s : Sound d
   s = lawful-sound d h
 
   -- an accepted call stores one cell
   pub call-stored : number R.finds d c ≡ 0 → Stored d (changed d k e.page e.learned) k
-      (cellAfter (cell_of d k) e.page e.learned)
+      (cell_after (cell_of d k) e.page e.learned)
   unfolding number
   call-stored z =
       let l : CallLaw R c (stand d k) = law R c (stand d k) in
       let f : Fair k (stand d k) e = l.fair (owned d s k) z in
-      let m = roomed (refusal (tests R.finds c (roomy (stand d k)))) (pageWanted (stand d k) e
-      && not (stand d k).pageFree) (placeWanted
-      (stand d k) e && not (stand d k).placeFree) (sym (l.last (sound-is d k ∙ h)) ∙ z) in
+      let m = roomed (refusal (tests R.finds c (roomy (stand d k)))) (page_wanted (stand d k) e
+      && not (stand d k).page_free) (place_wanted
+      (stand d k) e && not (stand d k).place_free) (sym (l.last (sound-is d k ∙ h)) ∙ z) in
       changed-stored d s k f.known e.page e.learned
       (subst (λ (x : Cell Table Page). Clean x e.page e.learned) (under-is d s k)
       f.clean) f.page f.table
@@ -132,23 +132,23 @@ module _ (R : Reader) (d : Desk) (h : lawful d ≡ true) (c : Call) where
 
   -- after an accepted call the key's page and its class's learned table are what the call made of them
   pub call-leaves : number R.finds d c ≡ 0
-      → (openPage (outcome R.finds d c).desk (key_of c)
-      ≡ afterwards (openPage d (key_of c)) (effectOn R.finds d c).page)
-      × (learnedTable (outcome R.finds d c).desk (key_of c)
-      ≡ afterwards (learnedTable d (key_of c)) (effectOn R.finds d c).learned)
+      → (open_page (outcome R.finds d c).desk (key_of c)
+      ≡ afterwards (open_page d (key_of c)) (effect_on R.finds d c).page)
+      × (learned_table (outcome R.finds d c).desk (key_of c)
+      ≡ afterwards (learned_table d (key_of c)) (effect_on R.finds d c).learned)
   unfolding outcome
   call-leaves z = rw z (left z)
     where
-      left : number R.finds d c ≡ 0 → (openPage (changed d k e.page e.learned) k ≡ afterwards (openPage d k)
+      left : number R.finds d c ≡ 0 → (open_page (changed d k e.page e.learned) k ≡ afterwards (open_page d k)
           e.page)
-          × (learnedTable (changed d k e.page e.learned) k ≡ afterwards (learnedTable d k) e.learned)
+          × (learned_table (changed d k e.page e.learned) k ≡ afterwards (learned_table d k) e.learned)
       left z =
           let c' = call-stored z in
           let s' : Sound (changed d k e.page e.learned) = stored-sound d (changed d k e.page e.learned)
           k _ s c' in
-          let q : cell_of (changed d k e.page e.learned) k ≡ cellAfter (cell_of d k) e.page e.learned
+          let q : cell_of (changed d k e.page e.learned) k ≡ cell_after (cell_of d k) e.page e.learned
           = ap (λ (z : Shelf). cell_at K Table Page z k) c'.shelved
-          ∙ sym (own-cell K Table Page (shelves d) s.fitting k (cellAfter (cell_of d k) e.page e.learned)
+          ∙ sym (own-cell K Table Page (shelves d) s.fitting k (cell_after (cell_of d k) e.page e.learned)
           c'.page-room
           c'.place-room) in (
             page-is (changed d k e.page e.learned) s' k ∙ ap (λ (x : Cell Table Page). x.page) q
@@ -168,27 +168,27 @@ module _ (R : Reader) (d : Desk) (h : lawful d ≡ true) (c : Call) where
 
   -- every call keeps a lawful desk lawful
   pub call-lawful : lawful (outcome R.finds d c).desk ≡ true
-  call-lawful = call-keeps.stays-lawful
+  call-lawful = call-keeps.stays_lawful
 
 -- While a page is open a look still shows the old table: a band changes no learned table, and a look shows nothing
 -- else.
 module _ (R : Reader) (d : Desk) (h : lawful d ≡ true) (c : Call) where
   -- a band changes no learned table
-  pub band-tables : kind_of c ≡ band → (j : Key) → learnedTable (outcome R.finds d c).desk j ≡ learnedTable d j
+  pub band-tables : kind_of c ≡ band → (j : Key) → learned_table (outcome R.finds d c).desk j ≡ learned_table d j
   unfolding KindLaw outcome
-  band-tables q j = go (sameKey (key_of c) j) refl
+  band-tables q j = go (same_key (key_of c) j) refl
     where
-      stayed : KindLaw R.finds (kind_of c) c (stand d (key_of c)) → (effectOn R.finds d c).learned ≡ stays
+      stayed : KindLaw R.finds (kind_of c) c (stand d (key_of c)) → (effect_on R.finds d c).learned ≡ stays
       stayed l = (subst (λ (κ : Kind). KindLaw R.finds κ c (stand d (key_of c))) q l).2
 
-      own : (n : ℕ) → number R.finds d c ≡ n → learnedTable (outcome R.finds d c).desk (key_of c) ≡ learnedTable
+      own : (n : ℕ) → number R.finds d c ≡ n → learned_table (outcome R.finds d c).desk (key_of c) ≡ learned_table
           d (key_of c)
-      own zero z = (call-leaves R d h c z).1 ∙ ap (afterwards (learnedTable d (key_of c)))
+      own zero z = (call-leaves R d h c z).1 ∙ ap (afterwards (learned_table d (key_of c)))
           (stayed (kind-law R.finds c (stand d (key_of c))))
       own (suc n) z = rw z
 
-      go : (b : Bool) → sameKey (key_of c) j ≡ b → learnedTable (outcome R.finds d c).desk j ≡ learnedTable d j
-      go true e = subst (λ (i : Key). learnedTable (outcome R.finds d c).desk i ≡ learnedTable d i)
+      go : (b : Bool) → same_key (key_of c) j ≡ b → learned_table (outcome R.finds d c).desk j ≡ learned_table d j
+      go true e = subst (λ (i : Key). learned_table (outcome R.finds d c).desk i ≡ learned_table d i)
           (key-only (key_of c) j e) (own (number
           R.finds d c) refl)
       go false e = ((call-keeps R d h c).others_same j e).table

@@ -8,20 +8,20 @@ use borrow.Author.Tests.{eqb-true}
 use Rattle.ground.proofs.Bools.{not-true, and-false}
 use Rattle.ground.specs.Options.{given, or_else}
 use Rattle.ground.proofs.Options.{none-given}
-use Rattle.template.specs.Pels.{rowBytes, bandPadded}
-use Rattle.limits.specs.Limits.{maxWidth}
+use Rattle.template.specs.Pels.{row_bytes, band_padded}
+use Rattle.limits.specs.Limits.{max_width}
 use Rattle.band.specs.Band.{Reader}
-use Rattle.desk.specs.Places.{noPage}
-use Rattle.desk.specs.Lawful.{within, lawfulKey}
+use Rattle.desk.specs.Places.{no_page}
+use Rattle.desk.specs.Lawful.{within, lawful_key}
 use Rattle.desk.specs.Refusals.{refusal}
 use Rattle.desk.specs.Calls.{Call, opens, writes, reads, closes, abandons, drops, looks, key_of}
 use Rattle.desk.specs.Standing.{Stand, page_of}
-use Rattle.desk.specs.Tests.{foundIn, tests}
-use Rattle.desk.specs.Effects.{freshTable, effect}
+use Rattle.desk.specs.Tests.{found_in, tests}
+use Rattle.desk.specs.Effects.{fresh_table, effect}
 use Rattle.desk.proofs.Passed.{passed, passed-after}
 use Rattle.kept.proofs.Fair.{Owned, Fair, held, there, lawful-key, some-rows, new-fair, band-fair, found-fair}
 use Rattle.kept.proofs.Fair.{start-lawful}
-use Rattle.kept.proofs.Room.{roomy, pageWanted, placeWanted, withRoom, ForRoom, quiet-number, Unwanted}
+use Rattle.kept.proofs.Room.{roomy, page_wanted, place_wanted, with_room, ForRoom, quiet-number, Unwanted}
 use Rattle.kept.proofs.Room.{open-wants, drop-wants, look-wants, opens-last}
 
 module _ (R : Reader) where
@@ -32,9 +32,9 @@ module _ (R : Reader) where
     -- it takes anew is not free
     pub other : ForRoom (refusal (tests R.finds c (roomy s))) ≡ false
     pub last : s.sound ≡ true → refusal (tests R.finds c s)
-        ≡ withRoom (refusal (tests R.finds c (roomy s))) (pageWanted s (effect R.finds c s) && not s.pageFree)
-        (placeWanted s (effect
-        R.finds c s) && not s.placeFree)
+        ≡ with_room (refusal (tests R.finds c (roomy s))) (page_wanted s (effect R.finds c s) && not s.page_free)
+        (place_wanted s (effect
+        R.finds c s) && not s.place_free)
     -- what an accepted call makes of the page and the table of a lawful desk is lawful again
     pub fair : Owned (key_of c) s → refusal (tests R.finds c s) ≡ 0 → Fair (key_of c) s (effect R.finds c s)
 
@@ -43,34 +43,34 @@ module _ (R : Reader) where
       (tests R.finds c (roomy s))) → (refusal (tests
       R.finds c (roomy s)) ≡ 0 → Unwanted s (effect R.finds c s))
       → s.sound ≡ true → refusal (tests R.finds c s)
-      ≡ withRoom (refusal (tests R.finds c (roomy s))) (pageWanted s (effect R.finds c s) && not s.pageFree)
-      (placeWanted s (effect
-      R.finds c s) && not s.placeFree)
+      ≡ with_room (refusal (tests R.finds c (roomy s))) (page_wanted s (effect R.finds c s) && not s.page_free)
+      (place_wanted s (effect
+      R.finds c s) && not s.place_free)
   no_room c s n u h = n h ∙ go (refusal (tests R.finds c (roomy s))) u
     where
       go : (m : ℕ) → (m ≡ 0 → Unwanted s (effect R.finds c s))
-          → m ≡ withRoom m (pageWanted s (effect R.finds c s) && not s.pageFree)
-          (placeWanted s (effect R.finds c s) && not s.placeFree)
+          → m ≡ with_room m (page_wanted s (effect R.finds c s) && not s.page_free)
+          (place_wanted s (effect R.finds c s) && not s.place_free)
       go zero h = rw ((h refl).0, (h refl).1)
       go (suc m) h = refl
 
   pub law : (c : Call) (s : Stand) → CallLaw c s
-  unfolding tests effect refusal foundIn
+  unfolding tests effect refusal found_in
   law (opens ask) s =
       record {
         same = refl;
         other = quiet-number (tests R.finds (opens ask) (roomy s)) (rw (and-false (not (given s.learned))));
-        last = λ h. rw h (opens-last (not (lawfulKey ask.key)) (not (within 1 ask.width maxWidth)) s.page
-            s.learned s.pageFree s.placeFree _);
+        last = λ h. rw h (opens-last (not (lawful_key ask.key)) (not (within 1 ask.width max_width)) s.page
+            s.learned s.page_free s.place_free _);
         fair =
             λ o e.
             let ts = tests R.finds (opens ask) s in
             record {
               known = lawful-key ask.key (passed 1 ts refl e);
               clean = tt;
-              page = new-fair ask (or_else s.learned freshTable) (lawful-key ask.key (passed 1 ts refl e))
+              page = new-fair ask (or_else s.learned fresh_table) (lawful-key ask.key (passed 1 ts refl e))
                   (not-true (within 1
-                  ask.width maxWidth) (passed 6 ts refl e)) (start-lawful ask.key s o);
+                  ask.width max_width) (passed 6 ts refl e)) (start-lawful ask.key s o);
               table = tt;
             };
       }
@@ -89,10 +89,10 @@ module _ (R : Reader) where
               clean = tt;
               page = band-fair ask.key s o ask.rows pels (there s.page (passed 2 ts refl e))
                   (some-rows ask.rows (passed 6 ts refl e))
-                  (eqb-true (length pels) (ask.rows * rowBytes (page_of s).width)
-                  (not-true (eqb (length pels) (ask.rows * rowBytes
+                  (eqb-true (length pels) (ask.rows * row_bytes (page_of s).width)
+                  (not-true (eqb (length pels) (ask.rows * row_bytes
                   (page_of s).width)) (passed-after 7 6 ts refl e)))
-                  (not-true (bandPadded (page_of s).width pels ask.rows) (passed 8 ts refl e));
+                  (not-true (band_padded (page_of s).width pels ask.rows) (passed 8 ts refl e));
               table = tt;
             };
       }
@@ -109,7 +109,7 @@ module _ (R : Reader) where
             record {
               known = lawful-key ask.key (passed 1 ts refl e);
               clean = tt;
-              page = found-fair ask.key s o ask.rows code (foundIn R.finds (page_of s) ask.rows code)
+              page = found-fair ask.key s o ask.rows code (found_in R.finds (page_of s) ask.rows code)
                   (R.right (page_of s).width
                   ask.rows (page_of s).table.entries (page_of s).last code) (passed 10 ts refl e)
                   (there s.page (passed 2 ts refl e))
@@ -131,7 +131,7 @@ module _ (R : Reader) where
               known = lawful-key k (passed 1 ts refl e);
               clean = there s.page (passed 2 ts refl e);
               page = tt;
-              table = (o.page (page_of s) (held s.page noPage (there s.page (passed 2 ts refl e)))).0.table;
+              table = (o.page (page_of s) (held s.page no_page (there s.page (passed 2 ts refl e)))).0.table;
             };
       }
   law (abandons k) s =

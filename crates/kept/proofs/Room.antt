@@ -17,21 +17,21 @@ use Rattle.desk.specs.Effects.{stays, gone, Effect, does, afterwards}
 
 -- a lawful desk with room for any page and place
 abbrev pub roomy : Stand → Stand
-roomy s = record { sound = true; page = s.page; learned = s.learned; pageFree = true; placeFree = true }
+roomy s = record { sound = true; page = s.page; learned = s.learned; page_free = true; place_free = true }
 
 -- the page, the place that is taken anew
-abbrev pub pageWanted : Stand → Effect → Bool
-pageWanted s e = not (given s.page) && given (afterwards s.page e.page)
+abbrev pub page_wanted : Stand → Effect → Bool
+page_wanted s e = not (given s.page) && given (afterwards s.page e.page)
 
-abbrev pub placeWanted : Stand → Effect → Bool
-placeWanted s e = not (given (place_of s.learned s.page)) && given (place_of (afterwards s.learned e.learned)
+abbrev pub place_wanted : Stand → Effect → Bool
+place_wanted s e = not (given (place_of s.learned s.page)) && given (place_of (afterwards s.learned e.learned)
     (afterwards s.page
     e.page))
 
 -- a call's other number, and after it the room: 4, then 5
-abbrev pub withRoom : ℕ → Bool → Bool → ℕ
-withRoom zero p q = cond p 4 (cond q 5 0)
-withRoom (suc n) p q = suc n
+abbrev pub with_room : ℕ → Bool → Bool → ℕ
+with_room zero p q = cond p 4 (cond q 5 0)
+with_room (suc n) p q = suc n
 
 -- a number that is no refusal for want of room
 abbrev pub ForRoom : ℕ → Bool
@@ -57,16 +57,16 @@ quiet-number (r ∷ rs) h = go (ForRoom r.number) r.holds refl (both (not (ForRo
 
 -- nothing is taken anew
 abbrev pub Unwanted : Stand → Effect → Type 0
-Unwanted s e = ((pageWanted s e && not s.pageFree) ≡ false) × ((placeWanted s e && not s.placeFree) ≡ false)
+Unwanted s e = ((page_wanted s e && not s.page_free) ≡ false) × ((place_wanted s e && not s.place_free) ≡ false)
 
 -- a page that is open stays or goes
 pub open-wants : (s : Stand) (e : Effect) → not (given s.page) ≡ false → Unwanted s e
 open-wants s e h = go s.page s.learned h
   where
     go : (p : Option Page) (t : Option Table) → not (given p) ≡ false
-        → (((not (given p) && given (afterwards p e.page)) && not s.pageFree) ≡ false)
+        → (((not (given p) && given (afterwards p e.page)) && not s.page_free) ≡ false)
         × (((not (given (place_of t p)) && given (place_of (afterwards t e.learned) (afterwards p e.page)))
-        && not s.placeFree) ≡ false)
+        && not s.place_free) ≡ false)
     go none t h = no_way h
     go (some p) none h = (refl, refl)
     go (some p) (some t) h = (refl, refl)
@@ -76,9 +76,9 @@ pub drop-wants : (s : Stand) → given s.page ≡ false → Unwanted s (does sta
 drop-wants s h = go s.page s.learned h
   where
     go : (p : Option Page) (t : Option Table) → given p ≡ false
-        → (((not (given p) && given p) && not s.pageFree) ≡ false)
+        → (((not (given p) && given p) && not s.page_free) ≡ false)
         × (((not (given (place_of t p)) && given (place_of {T = Table} none p)) && not
-        s.placeFree) ≡ false)
+        s.place_free) ≡ false)
     go none none h = (refl, refl)
     go none (some t) h = (refl, refl)
     go (some p) t h = no_way h
@@ -86,9 +86,9 @@ drop-wants s h = go s.page s.learned h
 -- nothing changes
 pub look-wants : (s : Stand) (e : Effect) → e.page ≡ stays → e.learned ≡ stays → Unwanted s e
 look-wants s e p q = rw (p, q) (
-  never (given s.page) (not s.pageFree),
+  never (given s.page) (not s.page_free),
   never
-      (given (place_of s.learned s.page)) (not s.placeFree),
+      (given (place_of s.learned s.page)) (not s.place_free),
 )
   where
     never : (a b : Bool) → ((not a && a) && b) ≡ false
@@ -98,7 +98,7 @@ look-wants s e p q = rw (p, q) (
 -- the tests of an open: 4 and 5 after the others
 pub opens-last : (a b : Bool) (p : Option Page) (t : Option Table) (f g : Bool) (new : Page)
     → cond a 1 (cond b 6 (cond (given p) 3 (cond (not f) 4 (cond (not (given t) && not g) 5 0))))
-    ≡ withRoom (cond a 1 (cond b 6 (cond (given p) 3 (cond (not (given t) && false) 5 0))))
+    ≡ with_room (cond a 1 (cond b 6 (cond (given p) 3 (cond (not (given t) && false) 5 0))))
     ((not (given p) && true) && not f)
     ((not (given (place_of t p)) && given (place_of t (some new))) && not g)
 opens-last true b p t f g new = refl

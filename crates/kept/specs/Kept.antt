@@ -2,16 +2,16 @@
 use Rattle.std.specs.Prelude.{◌≡◌, true, false}
 use Rattle.desk.specs.declared.Key.{Key}
 use Rattle.desk.specs.Desk.{Desk}
-use Rattle.desk.specs.Places.{sameKey}
+use Rattle.desk.specs.Places.{same_key}
 use Rattle.desk.specs.Lawful.{lawful}
-use Rattle.desk.specs.Standing.{openPage, learnedTable}
+use Rattle.desk.specs.Standing.{open_page, learned_table}
 
 -- what a key sees: its open page and its learned table
 pub record SameFor (j : Key) (d d' : Desk) : Type 0 where
-  pub page : openPage d' j ≡ openPage d j
-  pub table : learnedTable d' j ≡ learnedTable d j
+  pub page : open_page d' j ≡ open_page d j
+  pub table : learned_table d' j ≡ learned_table d j
 
 -- a call under k keeps the desk lawful, and other keys see no change
 pub record Keeps (k : Key) (d d' : Desk) : Type 0 where
-  pub stays-lawful : lawful d' ≡ true
-  pub others_same : (j : Key) → sameKey k j ≡ false → SameFor j d d'
+  pub stays_lawful : lawful d' ≡ true
+  pub others_same : (j : Key) → same_key k j ≡ false → SameFor j d d'

@@ -10,8 +10,8 @@ use lib.ListN.{length, drop, get_or, drop_of_length-le}
 use lib.Seq.{drop-cons}
 use borrow.Author.Tests.{ltb-true, ltb-false, leb-true, leb-false, le-leb, lt-leb, eq-eqb, ne_eqb}
 use Rattle.estimate.specs.Estimate.{index_of}
-use Rattle.desk.specs.Lawful.{all, lowIndexes, is_zero}
-use Rattle.lawful.specs.Highest.{higher, highestFrom, low, topEntry}
+use Rattle.desk.specs.Lawful.{all, low_indexes, is_zero}
+use Rattle.lawful.specs.Highest.{higher, highest_from, low, top_entry}
 
 higher-low : (n h x : ℕ) → leb (higher h x) n ≡ (leb h n && leb x n)
 higher-low n h x = go (ltb h x) (leb h n) (leb x n) refl refl refl
@@ -23,8 +23,8 @@ higher-low n h x = go (ltb h x) (leb h n) (leb x n) refl refl refl
     go false false b e f g = f
 
 -- the highest is at most n where all are
-highest-low : (n h : ℕ) (xs : List ℕ) → leb (highestFrom h xs) n ≡ (leb h n && low n xs)
-unfolding highestFrom all
+highest-low : (n h : ℕ) (xs : List ℕ) → leb (highest_from h xs) n ≡ (leb h n && low n xs)
+unfolding highest_from all
 highest-low n h [] = with-true (leb h n)
   where
     with-true : (b : Bool) → b ≡ (b && true)
@@ -37,11 +37,11 @@ highest-low n h (x ∷ xs) = highest-low n (higher h x) xs ∙ ap (λ (b : Bool)
     assoc true b c = refl
     assoc false b c = refl
 
-pub all-low : (n : ℕ) (xs : List ℕ) → leb (highestFrom 0 xs) n ≡ low n xs
+pub all-low : (n : ℕ) (xs : List ℕ) → leb (highest_from 0 xs) n ≡ low n xs
 all-low n xs = highest-low n 0 xs ∙ ap (λ (b : Bool). b && low n xs) (le-leb 0 n (omega arith))
 
 -- ---- what it decides: indexes of at most 29, and zero
-pub entries-low : (xs : List ℕ) → low 59 xs ≡ lowIndexes xs
+pub entries-low : (xs : List ℕ) → low 59 xs ≡ low_indexes xs
 entries-low xs = ap (λ (test : ℕ → Bool). all test xs) (λ i x. half x i)
   where
     half : (x : ℕ) → leb x 59 ≡ leb (index_of x) 29
@@ -61,22 +61,22 @@ zero-low xs = ap (λ (test : ℕ → Bool). all test xs) (λ i x. none x i)
         go true e = let k = leb-true x 0 e in e ∙ sym (eq-eqb x 0 (omega arith))
         go false e = let k = leb-false x 0 e in e ∙ sym (ne_eqb x 0 (λ z. omega arith))
 
-pub table-low : (state : ℕ) (xs : List ℕ) → low (topEntry state) xs ≡ cond (eqb state 2) (lowIndexes xs) (is_zero xs)
+pub table-low : (state : ℕ) (xs : List ℕ) → low (top_entry state) xs ≡ cond (eqb state 2) (low_indexes xs) (is_zero xs)
 table-low state xs = go (eqb state 2)
   where
-    go : (b : Bool) → low (cond b 59 0) xs ≡ cond b (lowIndexes xs) (is_zero xs)
+    go : (b : Bool) → low (cond b 59 0) xs ≡ cond b (low_indexes xs) (is_zero xs)
     go true = entries-low xs
     go false = zero-low xs
 
 -- ---- a loop that has come to the i-th, with the highest so far
 pub record Highest (top : ℕ) (xs : List ℕ) (i : ℕ) : Type 0 where
-  pub rest : highestFrom top (drop i xs) ≡ highestFrom 0 xs
+  pub rest : highest_from top (drop i xs) ≡ highest_from 0 xs
 
 module _ {top : ℕ} {xs : List ℕ} {i : ℕ} (s : Highest top xs i) where
   pub highest-next : (t : ℕ) → i < length xs → t ≡ higher top (get_or xs i 0) → Highest t xs (i + 1)
-  unfolding highestFrom
+  unfolding highest_from
   highest-next t h e = record { rest = rw e (rw add-one (rw (drop-cons xs i 0 h) at s.rest)) }
 
-  pub highest-end : length xs ≤ i → top ≡ highestFrom 0 xs
-  unfolding highestFrom
+  pub highest-end : length xs ≤ i → top ≡ highest_from 0 xs
+  unfolding highest_from
   highest-end h = rw (drop_of_length-le xs h) at s.rest

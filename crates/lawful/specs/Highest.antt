@@ -5,14 +5,14 @@ use Rattle.desk.specs.Lawful.{all}
 abbrev pub higher : ℕ → ℕ → ℕ
 higher h x = cond (ltb h x) x h
 
-unfoldable pub highestFrom : ℕ → List ℕ → ℕ
-highestFrom h [] = h
-highestFrom h (x ∷ xs) = highestFrom (higher h x) xs
+unfoldable pub highest_from : ℕ → List ℕ → ℕ
+highest_from h [] = h
+highest_from h (x ∷ xs) = highest_from (higher h x) xs
 
 -- every byte is at most n
 abbrev pub low : ℕ → List ℕ → Bool
 low n xs = all (λ x. leb x n) xs
 
 -- the highest entry that a place's table may have
-abbrev pub topEntry : ℕ → ℕ
-topEntry state = cond (eqb state 2) 59 0
+abbrev pub top_entry : ℕ → ℕ
+top_entry state = cond (eqb state 2) 59 0

@@ -1,14 +1,14 @@
 // Whether a desk is lawful. Every byte of its arrays is looked at, with no early exit, so that the loop is made of
 // vector instructions.
 ghost use Rattle.std.specs.Prelude.{◌≡◌, ◌+◌, ◌*◌, ◌≤◌, ◌<◌, length, get_or, drop};
-ghost use Rattle.limits.specs.Limits.{maxWidth, maxPages, maxPlaces, lastBytes};
-ghost use Rattle.parts.specs.Parts.{asPage, asPlace, pagesOf, places_of, parts_of, deskOf, Sized, Whole};
-ghost use Rattle.parts.specs.Lines.{noPageLine, noPlaceLine};
-ghost use Rattle.desk.specs.Lawful.{within, lawfulKey, noStray, lawfulPage, lawfulPlace, lawful};
-ghost use Rattle.lawful.specs.Highest.{higher, highestFrom, low, topEntry};
+ghost use Rattle.limits.specs.Limits.{max_width, max_pages, max_places, last_bytes};
+ghost use Rattle.parts.specs.Parts.{as_page, as_place, pages_of, places_of, parts_of, desk_of, Sized, Whole};
+ghost use Rattle.parts.specs.Lines.{no_page_line, no_place_line};
+ghost use Rattle.desk.specs.Lawful.{within, lawful_key, no_stray, lawful_page, lawful_place, lawful};
+ghost use Rattle.lawful.specs.Highest.{higher, highest_from, low, top_entry};
 ghost use Rattle.lawful.specs.Every.{each};
-ghost use Rattle.lawful.specs.Each.{openRight, unusedRight, pageKnown, placeKnown, pageRight, placeRight};
-ghost use Rattle.lawful.specs.Each.{hasPage, hasPlace};
+ghost use Rattle.lawful.specs.Each.{open_right, unused_right, page_known, place_known, page_right, place_right};
+ghost use Rattle.lawful.specs.Each.{has_page, has_place};
 
 use desk::Key;
 use limits::{CONTEXTS, MAX_KEY, MAX_WIDTH, PAGES, PLACES, ROW};
@@ -26,7 +26,7 @@ pub fn in_range(n: u64, high: u64) -> bool
 
 // Each number 1 to the limit.
 pub fn lawful_key(key: Key) -> bool
-    ensures { result ≡ lawfulKey key }
+    ensures { result ≡ lawful_key key }
 {
     in_range(key.school, MAX_KEY) & in_range(key.class, MAX_KEY)
 }
@@ -43,7 +43,7 @@ fn higher(h: u8, x: u8) -> u8
 
 // The highest byte.
 fn highest(xs: &[u8]) -> u8
-    ensures { result ≡ highestFrom 0 xs.now }
+    ensures { result ≡ highest_from 0 xs.now }
 {
     let mut top: u8 = 0;
     let mut i: usize = 0;
@@ -63,8 +63,8 @@ fn is_low(xs: &[u8], n: u8) -> bool
 
 // Neither a padding bit nor a byte after the row is set.
 fn no_stray(last: &[u8], width: usize) -> bool
-    requires { (1 ≤ width) × (width ≤ maxWidth) × (width ≤ 8 * length last.now) }
-    ensures { result ≡ noStray width last.now }
+    requires { (1 ≤ width) × (width ≤ max_width) × (width ≤ 8 * length last.now) }
+    ensures { result ≡ no_stray width last.now }
 {
     let n = template::row_bytes(width);
     template::row_padded(&last[0..n], width) & is_low(&last[n..last.len()], 0)
@@ -72,8 +72,8 @@ fn no_stray(last: &[u8], width: usize) -> bool
 
 // An open page: its state, key, width, indexes and last row.
 fn open_right(p: PageLine, table: &[u8], last: &[u8]) -> bool
-    requires { length last.now ≡ lastBytes }
-    ensures { result ≡ openRight (asPage p table.now last.now) }
+    requires { length last.now ≡ last_bytes }
+    ensures { result ≡ open_right (as_page p table.now last.now) }
 {
     if !in_range(p.width, MAX_WIDTH) {
         return false;
@@ -84,7 +84,7 @@ fn open_right(p: PageLine, table: &[u8], last: &[u8]) -> bool
 
 // An unused page is zero.
 fn unused_right(p: PageLine, table: &[u8], last: &[u8]) -> bool
-    ensures { result ≡ unusedRight (asPage p table.now last.now) }
+    ensures { result ≡ unused_right (as_page p table.now last.now) }
 {
     parts::same_key(p.key, parts::no_key())
         & ((p.width == 0) & (is_low(table, 0) & is_low(last, 0)))
@@ -92,8 +92,8 @@ fn unused_right(p: PageLine, table: &[u8], last: &[u8]) -> bool
 
 // By whether it is open.
 fn lawful_page(p: PageLine, table: &[u8], last: &[u8]) -> bool
-    requires { length last.now ≡ lastBytes }
-    ensures { result ≡ lawfulPage (asPage p table.now last.now) }
+    requires { length last.now ≡ last_bytes }
+    ensures { result ≡ lawful_page (as_page p table.now last.now) }
 {
     if p.state == 0 {
         return unused_right(p, table, last);
@@ -103,7 +103,7 @@ fn lawful_page(p: PageLine, table: &[u8], last: &[u8]) -> bool
 
 // The highest entry that a place of that state may have: a reserved place's table, and a free one's, are zero.
 fn top_entry(state: u64) -> u8
-    ensures { result ≡ topEntry state }
+    ensures { result ≡ top_entry state }
 {
     if state == 2 {
         return MAX_ENTRY;
@@ -113,7 +113,7 @@ fn top_entry(state: u64) -> u8
 
 // A used place has a lawful key, a free one none; its table is learned and lawful, or zero.
 fn lawful_place(q: PlaceLine, table: &[u8]) -> bool
-    ensures { result ≡ lawfulPlace (asPlace q table.now) }
+    ensures { result ≡ lawful_place (as_place q table.now) }
 {
     let low = is_low(table, top_entry(q.state));
     if q.state == 0 {
@@ -124,22 +124,22 @@ fn lawful_place(q: PlaceLine, table: &[u8]) -> bool
 
 // Whether a page from that slot on is under the key.
 fn has_page(pages: [PageLine; PAGES], from: usize, key: Key) -> bool
-    ensures { result ≡ hasPage (drop from pages) key }
+    ensures { result ≡ has_page (drop from pages) key }
 {
     parts::is_found(parts::find_page(pages, from, Sought::Used(key)))
 }
 
 // Whether a place from that one on is under the key.
 fn has_place(places: [PlaceLine; PLACES], from: usize, key: Key) -> bool
-    ensures { result ≡ hasPlace (drop from places) key }
+    ensures { result ≡ has_place (drop from places) key }
 {
     parts::is_found(parts::find_place(places, from, Sought::Used(key)))
 }
 
 // An open page is alone under its key, and has its place.
 fn page_known(pages: [PageLine; PAGES], places: [PlaceLine; PLACES], i: usize) -> bool
-    requires { i < maxPages }
-    ensures { result ≡ pageKnown places (get_or pages i noPageLine) (drop (i + 1) pages) }
+    requires { i < max_pages }
+    ensures { result ≡ page_known places (get_or pages i no_page_line) (drop (i + 1) pages) }
 {
     let p = pages[i];
     (p.state == 0) | (!has_page(pages, i + 1, p.key) & has_place(places, 0, p.key))
@@ -147,8 +147,8 @@ fn page_known(pages: [PageLine; PAGES], places: [PlaceLine; PLACES], i: usize) -
 
 // A used place is alone under its key, and a reserved one has its page.
 fn place_known(pages: [PageLine; PAGES], places: [PlaceLine; PLACES], i: usize) -> bool
-    requires { i < maxPlaces }
-    ensures { result ≡ placeKnown pages (get_or places i noPlaceLine) (drop (i + 1) places) }
+    requires { i < max_places }
+    ensures { result ≡ place_known pages (get_or places i no_place_line) (drop (i + 1) places) }
 {
     let q = places[i];
     ((q.state == 0) | !has_place(places, i + 1, q.key))
@@ -162,9 +162,9 @@ fn pages_right(
     working: &[[u8; CONTEXTS]; PAGES],
     rows: &[[u8; ROW]; PAGES],
 ) -> bool
-    requires { (length working.now ≡ maxPages) × (length rows.now ≡ maxPages) }
-    ensures { (result ≡ each (pageRight places) (pagesOf pages working.now rows.now))
-        × (length pages ≡ maxPages) }
+    requires { (length working.now ≡ max_pages) × (length rows.now ≡ max_pages) }
+    ensures { (result ≡ each (page_right places) (pages_of pages working.now rows.now))
+        × (length pages ≡ max_pages) }
 {
     let mut i: usize = 0;
     while i < PAGES {
@@ -183,9 +183,9 @@ fn places_right(
     places: [PlaceLine; PLACES],
     learned: &[[u8; CONTEXTS]; PLACES],
 ) -> bool
-    requires { length learned.now ≡ maxPlaces }
-    ensures { (result ≡ each (placeRight pages) (places_of places learned.now))
-        × (length places ≡ maxPlaces) }
+    requires { length learned.now ≡ max_places }
+    ensures { (result ≡ each (place_right pages) (places_of places learned.now))
+        × (length places ≡ max_places) }
 {
     let mut i: usize = 0;
     while i < PLACES {
@@ -206,7 +206,7 @@ pub fn lawful_desk(
     learned: &[[u8; CONTEXTS]; PLACES],
 ) -> bool
     requires { Sized working.now rows.now learned.now }
-    ensures { (result ≡ lawful (deskOf (parts_of book working.now rows.now learned.now))) × Whole
+    ensures { (result ≡ lawful (desk_of (parts_of book working.now rows.now learned.now))) × Whole
         (parts_of book working.now rows.now learned.now) }
 {
     let pages = book.pages;

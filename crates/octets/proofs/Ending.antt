@@ -12,7 +12,7 @@ use lib.Dec.{eqb}
 use Rattle.ground.proofs.Tests.{by_cond, if-ne}
 use Rattle.interval.specs.declared.Interval.{Interval}
 use Rattle.octets.specs.declared.Byte.{Byte}
-use Rattle.octets.specs.Octets.{Registers, bits, carried, left, byte, pad, pads, lastByte, cover, finish, bytes}
+use Rattle.octets.specs.Octets.{Registers, bits, carried, left, byte, pad, pads, last_byte, cover, finish, bytes}
 use Rattle.octets.specs.Octets.{follows, ended}
 use Rattle.octets.specs.Unit.{unit}
 use Rattle.octets.proofs.Unit.{unit-pred, unit-zero}
@@ -42,7 +42,7 @@ unfolding pads
 filled zero w f e = record { fit = f; due = e }
 filled (suc n) w f e = filled n (pad w) (fit-pad w (record { fit = f; wait = omega arith })) (omega arith)
 
-pub rest-last : (w : Registers) → Rest w → Rest (lastByte w)
+pub rest-last : (w : Registers) → Rest w → Rest (last_byte w)
 rest-last w r =
     let k : Filled (pads w.until w) = filled w.until w r.fit refl in
     record { fit = fit-byte _ k.fit k.due; wait = omega (arith, byte-few (pads w.until w)) }
@@ -126,9 +126,9 @@ ending-low i low until held r =
     ap (λ (w : Registers). w.interval.low) (shifted until (stays i low until held)) in
     omega (arith, f.fit.under, ap unit f.due ∙ unit-zero)
 
-cover-some : (k r : ℕ) (w : Registers) → r ≢ 0 → cover (suc k) r w ≡ cover k (r - (lastByte w).until) (lastByte w)
+cover-some : (k r : ℕ) (w : Registers) → r ≢ 0 → cover (suc k) r w ≡ cover k (r - (last_byte w).until) (last_byte w)
 unfolding cover
-cover-some k r w h = if-ne r 0 w (cover k (r - (lastByte w).until) (lastByte w)) h
+cover-some k r w h = if-ne r 0 w (cover k (r - (last_byte w).until) (last_byte w)) h
 
 cover-none : (k : ℕ) (w : Registers) → cover k 0 w ≡ w
 unfolding cover
@@ -142,9 +142,9 @@ ended-behind xs w =
     ∙ append_assoc xs (w.settled ++ (w.held ∷ [])) (follows w.held)
 
 module _ (i : Interval) (low until held : ℕ) (v : Byte) (o : Out held (low * 2 ^ until) 1 v) where
-  last_byte : lastByte (stays i low until held) ≡ behind (v.settled ∷ []) (stays i v.low v.bits v.held)
+  last_byte_lem : last_byte (stays i low until held) ≡ behind (v.settled ∷ []) (stays i v.low v.bits v.held)
   unfolding byte
-  last_byte =
+  last_byte_lem =
       ap byte (shifted until (stays i low until held))
       ∙ (λ t. record {
         interval = record { low = lows t; width = i.width; count = i.count };
@@ -158,7 +158,7 @@ module _ (i : Interval) (low until held : ℕ) (v : Byte) (o : Out held (low * 2
 
   rest-next : Rest (stays i low until held) → Rest (stays i v.low v.bits v.held)
   rest-next r =
-      let k : Rest (behind (v.settled ∷ []) (stays i v.low v.bits v.held)) = subst Rest last_byte
+      let k : Rest (behind (v.settled ∷ []) (stays i v.low v.bits v.held)) = subst Rest last_byte_lem
       (rest-last (stays i low until held) r) in
       record {
         fit = record {
@@ -174,7 +174,7 @@ module _ (i : Interval) (low until held : ℕ) (v : Byte) (o : Out held (low * 2
   next-bytes : (k r : ℕ) → r ≢ 0 → ended (cover (suc k) r (stays i low until held)) ≡ v.settled
       ∷ ended (cover k (r - v.bits) (stays i v.low v.bits v.held))
   next-bytes k r h =
-      ap ended (cover-some k r (stays i low until held) h ∙ ap (λ (w : Registers). cover k (r - w.until) w) last_byte
+      ap ended (cover-some k r (stays i low until held) h ∙ ap (λ (w : Registers). cover k (r - w.until) w) last_byte_lem
       ∙ behind-cover k (r - v.bits) (v.settled ∷ []) (stays i v.low v.bits v.held))
       ∙ ended-behind (v.settled ∷ []) (cover k (r - v.bits) (stays i v.low v.bits v.held))
 

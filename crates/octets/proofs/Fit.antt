@@ -12,22 +12,22 @@ use Rattle.ground.proofs.Tests.{by_cond, same?, if-eq, if-ne, neqb→ne}
 use Rattle.octets.specs.Unit.{unit}
 use Rattle.octets.proofs.Unit.{unit-scale, unit-pred, unit-zero, unit-eight, unit-seven}
 use Rattle.interval.specs.declared.Interval.{Interval}
-use Rattle.interval.specs.Interval.{Decision, upperPart, lowerPart}
+use Rattle.interval.specs.Interval.{Decision, upper_part, lower_part}
 use Rattle.octets.specs.Octets.{Registers, start, bits, carried, left, byte, due, double, shifts, at, part, pel}
 use Rattle.octets.specs.Octets.{run}
 use Rattle.octets.specs.Fit.{Fit, Rest, Ready}
 
 -- the two parts, with the bytes as they are; what holds of both holds of a pel's
 abbrev pub upper : ℕ → Registers → Registers
-upper q w = at (upperPart q w.interval) w
+upper q w = at (upper_part q w.interval) w
 
 abbrev pub lower : ℕ → Registers → Registers
-lower q w = at (lowerPart q w.interval) w
+lower q w = at (lower_part q w.interval) w
 
 pub by_part : (P : Registers → Type 0) (d : Decision) (w : Registers) → (T d.expected → P (upper d.q w))
     → (T (not d.expected) → P (lower d.q w)) → P (part d w)
-by_part P d w f g = by_cond (λ (i : Interval). P (at i w)) d.expected (upperPart d.q w.interval)
-    (lowerPart d.q w.interval) f g
+by_part P d w f g = by_cond (λ (i : Interval). P (at i w)) d.expected (upper_part d.q w.interval)
+    (lower_part d.q w.interval) f g
 
 -- a byte made of h and c: b is settled, h' and c' stand in the registers, u is the unit then
 pub record Made (h c a b u h' c' : ℕ) : Type 0 where

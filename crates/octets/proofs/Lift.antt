@@ -153,10 +153,10 @@ module _ (xs : List ℕ) (c a s h j : ℕ) (v : Byte) (o : Out h c (2 ^ j) v) wh
       })
 
   -- else the next byte goes out after its bits, with i shifts left
-  abbrev pub lowThen : ℕ
-  lowThen = left h c % 2 ^ (24 - bits (carried h c)) * 2 ^ bits (carried h c)
+  abbrev pub low_then : ℕ
+  low_then = left h c % 2 ^ (24 - bits (carried h c)) * 2 ^ bits (carried h c)
 
-  low-then : (i : ℕ) → v.bits + i ≡ j → v.low ≡ lowThen * 2 ^ i
+  low-then : (i : ℕ) → v.bits + i ≡ j → v.low ≡ low_then * 2 ^ i
   low-then i e =
       o.low ∙ ap (λ (n : ℕ). left h c % 2 ^ (24 - bits (carried h c)) * 2 ^ n)
       (sym (ap (λ (n : ℕ). n + i) (sym o.bits') ∙ e))
@@ -167,11 +167,11 @@ module _ (xs : List ℕ) (c a s h j : ℕ) (v : Byte) (o : Out h c (2 ^ j) v) wh
   bits-some = omega (arith, bits-few (carried h c))
 
   abbrev next : Registers
-  next = there (xs ++ (v.settled ∷ [])) lowThen (a * 2 ^ v.bits) (s + v.bits) v.held
+  next = there (xs ++ (v.settled ∷ [])) low_then (a * 2 ^ v.bits) (s + v.bits) v.held
 
   as-next : byte (jump (bits (carried h c)) (byte (there xs c a s h))) ≡ byte next
   unfolding byte
-  as-next = λ t. byte (there (xs ++ (sym o.byte t ∷ [])) lowThen (a * 2 ^ sym o.bits' t) (s + sym o.bits' t)
+  as-next = λ t. byte (there (xs ++ (sym o.byte t ∷ [])) low_then (a * 2 ^ sym o.bits' t) (s + sym o.bits' t)
       (sym o.held t))
 
   next-byte : (i : ℕ) → v.bits + i ≡ j → steps j (byte (there xs c a s h)) ≡ steps i (byte next)
@@ -182,7 +182,7 @@ module _ (xs : List ℕ) (c a s h j : ℕ) (v : Byte) (o : Out h c (2 ^ j) v) wh
 
 -- two bytes
 two_bytes : (c a s h j i : ℕ) (v u : Byte) (o : Out h c (2 ^ j) v) → v.bits + i ≡ j
-    → Out v.held (lowThen [] c a s h j v o) (2 ^ i) u → i < u.bits
+    → Out v.held (low_then [] c a s h j v o) (2 ^ i) u → i < u.bits
     → steps j (byte (there [] c a s h))
     ≡ record {
       interval = record { low = u.low; width = a * 2 ^ j; count = s + j };
@@ -191,7 +191,7 @@ two_bytes : (c a s h j i : ℕ) (v u : Byte) (o : Out h c (2 ^ j) v) → v.bits 
       settled = v.settled ∷ u.settled ∷ [];
     }
 two_bytes c a s h j i v u o e q l =
-    next-byte [] c a s h j v o i e ∙ one_byte (v.settled ∷ []) (lowThen [] c a s h j v o) (a * 2 ^ v.bits)
+    next-byte [] c a s h j v o i e ∙ one_byte (v.settled ∷ []) (low_then [] c a s h j v o) (a * 2 ^ v.bits)
     (s + v.bits) v.held i u q l
     ∙ (λ t. record {
       interval = record { low = u.low; width = width t; count = count t };
@@ -238,7 +238,7 @@ module _ (next : Interval) (h j : ℕ) (v : Byte) (o : (c : ℕ) → next.low �
         settled = v.settled ∷ u.settled ∷ [];
       }
   settle-two i u e q l =
-      two_bytes c a s h j i v u (o c low) e (q (lowThen [] c a s h j v (o c low))
+      two_bytes c a s h j i v u (o c low) e (q (low_then [] c a s h j v (o c low))
       (low-then [] c a s h j v (o c low) i e)) l
       ∙ (λ t. record {
         interval = record { low = u.low; width = sym width t; count = sym count t };

@@ -10,7 +10,7 @@ use mathlib.Core.Bool.{cond}
 use Rattle.ground.proofs.Tests.{by_cond, by-cond₂, if-eq, if-ne}
 use Rattle.interval.specs.Interval.{Decision, doublings}
 use Rattle.interval.proofs.Growing.{jumped, jumped-none, jumped-more}
-use Rattle.octets.specs.Octets.{Registers, carried, byte, due, double, shifts, part, pel, pad, pads, lastByte}
+use Rattle.octets.specs.Octets.{Registers, carried, byte, due, double, shifts, part, pel, pad, pads, last_byte}
 use Rattle.octets.specs.Octets.{cover, finish}
 use Rattle.octets.proofs.Fit.{due-width, due-count, by_part}
 use Rattle.octets.specs.Loops.{steps}
@@ -55,7 +55,7 @@ unfolding pads
 behind-pads zero xs w = refl
 behind-pads (suc n) xs w = behind-pads n xs (pad w)
 
-behind-last : (xs : List ℕ) (w : Registers) → lastByte (behind xs w) ≡ behind xs (lastByte w)
+behind-last : (xs : List ℕ) (w : Registers) → last_byte (behind xs w) ≡ behind xs (last_byte w)
 behind-last xs w = ap byte (behind-pads w.until xs w) ∙ behind-byte xs (pads w.until w)
 
 pub behind-cover : (n r : ℕ) (xs : List ℕ) (w : Registers) → cover n r (behind xs w) ≡ behind xs (cover n r w)
@@ -63,11 +63,11 @@ unfolding cover
 behind-cover zero r xs w = refl
 behind-cover (suc n) r xs w =
     by-cond₂ (λ (v u : Registers). v ≡ behind xs u) (eqb r 0) (behind xs w)
-    (cover n (r - (lastByte (behind xs w)).until) (lastByte (behind xs w))) w (cover n (r - (lastByte w).until)
-    (lastByte w))
+    (cover n (r - (last_byte (behind xs w)).until) (last_byte (behind xs w))) w (cover n (r - (last_byte w).until)
+    (last_byte w))
     (λ t. refl)
-    (λ t. ap (λ (v : Registers). cover n (r - v.until) v) (behind-last xs w) ∙ behind-cover n (r - (lastByte w).until)
-    xs (lastByte w))
+    (λ t. ap (λ (v : Registers). cover n (r - v.until) v) (behind-last xs w) ∙ behind-cover n (r - (last_byte w).until)
+    xs (last_byte w))
 
 pub behind-finish : (xs : List ℕ) (w : Registers) → finish (behind xs w) ≡ behind xs (finish w)
 unfolding finish

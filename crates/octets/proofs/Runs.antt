@@ -8,14 +8,14 @@ use mathlib.Core.Bool.{true}
 use lib.ListN.{replicate}
 use Rattle.ground.proofs.Tests.{if-ge}
 use Rattle.interval.specs.declared.Interval.{Interval}
-use Rattle.interval.specs.Interval.{decision, upperPart}
+use Rattle.interval.specs.Interval.{decision, upper_part}
 use Rattle.octets.specs.declared.Coder.{Coder}
 use Rattle.octets.specs.Octets.{Registers, due, double, shifts, pel, run}
 use Rattle.octets.proofs.Fit.{upper}
-use Rattle.octets.specs.Runs.{stillBy}
+use Rattle.octets.specs.Runs.{still_by}
 
 -- ---- two steps up are one
-part_none : (i : Interval) → upperPart 0 i ≡ i
+part_none : (i : Interval) → upper_part 0 i ≡ i
 part_none i = λ t. record { low = low i.low t; width = wide i.width t; count = i.count }
   where
     low : (x : ℕ) → x + 0 ≡ x
@@ -24,7 +24,7 @@ part_none i = λ t. record { low = low i.low t; width = wide i.width t; count = 
     wide : (x : ℕ) → x - 0 ≡ x
     wide x = omega arith
 
-part-more : (m n s : ℕ) (i : Interval) → m + n ≡ s → upperPart n (upperPart m i) ≡ upperPart s i
+part-more : (m n s : ℕ) (i : Interval) → m + n ≡ s → upper_part n (upper_part m i) ≡ upper_part s i
 part-more m n s i e = λ t. record { low = low i.low t; width = wide i.width t; count = i.count }
   where
     low : (x : ℕ) → x + m + n ≡ x + s
@@ -33,11 +33,11 @@ part-more m n s i e = λ t. record { low = low i.low t; width = wide i.width t; 
     wide : (x : ℕ) → x - m - n ≡ x - s
     wide x = omega arith
 
-pub still-none : (c : Coder) → stillBy 0 c ≡ c
+pub still-none : (c : Coder) → still_by 0 c ≡ c
 still-none c =
     ap (λ (i : Interval). record { interval = i; until = c.until; held = c.held }) (part_none c.interval)
 
-pub still-more : (m n s : ℕ) (c : Coder) → m + n ≡ s → stillBy n (stillBy m c) ≡ stillBy s c
+pub still-more : (m n s : ℕ) (c : Coder) → m + n ≡ s → still_by n (still_by m c) ≡ still_by s c
 still-more m n s c e =
     ap (λ (i : Interval). record { interval = i; until = c.until; held = c.held }) (part-more m n s c.interval e)
 
@@ -55,10 +55,10 @@ pel-upper q w h = shifts_none 12 (upper q w) (omega arith)
 run-expected : (m q : ℕ) (w : Registers) → 4096 + m * q ≤ w.interval.width → run (replicate m (decision q true))
     w ≡ upper (m * q) w
 unfolding run
-run-expected zero q w h = with_part (sym (part_none w.interval) ∙ ap (λ (k : ℕ). upperPart k w.interval)
+run-expected zero q w h = with_part (sym (part_none w.interval) ∙ ap (λ (k : ℕ). upper_part k w.interval)
     (sym (zero-mul q)))
   where
-    with_part : w.interval ≡ upperPart (0 * q) w.interval → w ≡ upper (0 * q) w
+    with_part : w.interval ≡ upper_part (0 * q) w.interval → w ≡ upper (0 * q) w
     with_part e =
         ap (λ (i : Interval). record { interval = i; until = w.until; held = w.held; settled = w.settled }) e
 run-expected (suc m) q w h =

@@ -87,15 +87,15 @@ pads zero w = w
 pads (suc n) w = pads n (pad w)
 
 -- at the end: a byte made by the same rules, zeros shifted in
-abbrev pub lastByte : Registers → Registers
-lastByte w = byte (pads w.until w)
+abbrev pub last_byte : Registers → Registers
+last_byte w = byte (pads w.until w)
 
 -- At the end, bytes are made by the same rules, zeros shifted in, until they cover the r bits of the lower end that are
 -- in no byte. Here n bytes at the most.
 unfoldable pub cover : ℕ → ℕ → Registers → Registers
 cover zero r w = w
 cover (suc n) r w =
-    let next : Registers = lastByte w in
+    let next : Registers = last_byte w in
     let rest : Registers = cover n (r - next.until) next in
     cond (eqb r 0) w rest
 

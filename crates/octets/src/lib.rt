@@ -1,12 +1,12 @@
 // The byte rules: one pel, and the end.
 ghost use Rattle.std.specs.Prelude.{◌≡◌, [], length, take, ℕ, ◌+◌, ◌-◌, ◌*◌, ◌≤◌, ◌<◌, ◌^◌};
-ghost use Rattle.limits.specs.Limits.{maxShifts};
+ghost use Rattle.limits.specs.Limits.{max_shifts};
 ghost use Rattle.interval.specs.Interval.{decision, part_of, doublings};
 ghost use Rattle.octets.specs.Octets.{start, pel, byte, finish, follows, ended};
 ghost use Rattle.octets.specs.Fit.{Rest, Ready};
 ghost use Rattle.octets.specs.Loops.{steps};
 ghost use Rattle.octets.specs.Lift.{Out, Small, lift, settled_of, there};
-ghost use Rattle.octets.specs.Runs.{stillBy};
+ghost use Rattle.octets.specs.Runs.{still_by};
 
 use interval::Interval;
 
@@ -168,7 +168,7 @@ impl Coder {
     // Expected pels with no shift, whose sizes add up to n.
     pub fn still(self, n: u64) -> Self
         requires { (n ≤ self.interval.width) × (self.interval.width < 8192) × (self.interval.low < 2 ^ 25) }
-        ensures { result ≡ stillBy n self }
+        ensures { result ≡ still_by n self }
     {
         let v = self.interval;
         let interval = Interval {
@@ -185,7 +185,7 @@ impl Coder {
 
     // One pel.
     pub fn pel(self, q: u64, expected: bool) -> Put
-        requires { Ready (lift self []) × (1 ≤ q) × (q ≤ 0xAC1) × (self.interval.count < maxShifts) }
+        requires { Ready (lift self []) × (1 ≤ q) × (q ≤ 0xAC1) × (self.interval.count < max_shifts) }
         ensures { (pel (decision q expected) (lift self []) ≡ lift result.coder (settled_of result)) × (result.settled ≤ 2)
             × (result.shifts ≡ doublings 12 (part_of (decision q expected) self.interval).width) }
     {

@@ -1,10 +1,10 @@
 // The call that opens a page. The book goes by value; the arrays are lent in place.
 ghost use Rattle.std.specs.Prelude.{◌≡◌, [], ◌<◌};
-ghost use Rattle.limits.specs.Limits.{maxPages};
-ghost use Rattle.parts.specs.Parts.{parts_of, deskOf, Sized, Whole};
+ghost use Rattle.limits.specs.Limits.{max_pages};
+ghost use Rattle.parts.specs.Parts.{parts_of, desk_of, Sized, Whole};
 ghost use Rattle.desk.specs.Calls.{opens};
-ghost use Rattle.parts.specs.Replies.{outcomeOf, Serves};
-ghost use Rattle.opening.specs.Opening.{newLine, openNew};
+ghost use Rattle.parts.specs.Replies.{outcome_of, Serves};
+ghost use Rattle.opening.specs.Opening.{new_line, open_new};
 
 use desk::{Found, Opening};
 use estimate::Table;
@@ -13,7 +13,7 @@ use parts::{Book, PageLine, PlaceLine, Reply, Sought};
 
 // The line of a page that is opened.
 fn new_line(ask: Opening) -> PageLine
-    ensures { result ≡ newLine ask }
+    ensures { result ≡ new_line ask }
 {
     let way = ask.direction;
     let key = ask.key;
@@ -71,9 +71,9 @@ fn open_new<'a>(
     ask: Opening,
     i: usize,
 ) -> Reply
-    requires { (i < maxPages) × Whole (parts_of book working.old rows.old learned.old) }
-    ensures { (outcomeOf result.answer (parts_of result.book working.new rows.new
-        learned.new) ≡ openNew (deskOf
+    requires { (i < max_pages) × Whole (parts_of book working.old rows.old learned.old) }
+    ensures { (outcome_of result.answer (parts_of result.book working.new rows.new
+        learned.new) ≡ open_new (desk_of
         (parts_of book working.old rows.old learned.old)) ask i) × Whole
         (parts_of result.book working.new rows.new learned.new) }
 {

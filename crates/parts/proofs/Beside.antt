@@ -6,7 +6,7 @@ use mathlib.Core.Bool.{Bool}
 use mathlib.Core.List.{List, [], ◌∷◌, map}
 use lib.ListN.{length, get_or, set}
 use Rattle.parts.specs.Parts.{beside}
-use Rattle.desk.specs.Places.{findBy}
+use Rattle.desk.specs.Places.{find_by}
 use Rattle.desk.specs.Lawful.{any}
 
 one_less : {m n : ℕ} → suc m ≡ suc n → m ≡ n
@@ -64,8 +64,8 @@ map-twice {A = A} g h (c ∷ cs) = ap (λ (xs : List A). h (g c) ∷ xs) (map-tw
 
 -- ---- a test of what is read off each element
 module _ {A C : Type 0} (g : C → A) where
-  pub find-map : (test : A → Bool) (cs : List C) (i : ℕ) → findBy (λ c. test (g c)) cs i ≡ findBy test (map g cs) i
-  unfolding findBy
+  pub find-map : (test : A → Bool) (cs : List C) (i : ℕ) → find_by (λ c. test (g c)) cs i ≡ find_by test (map g cs) i
+  unfolding find_by
   find-map test [] i = refl
   find-map test (c ∷ cs) i = rw (find-map test cs (suc i))
 

@@ -9,7 +9,7 @@ use Rattle.parts.specs.declared.PlaceLine.{PlaceLine}
 use Rattle.desk.specs.declared.Found.{Found}
 use Rattle.desk.specs.declared.Found.TheVariants.{At, Nothing}
 use Rattle.desk.specs.Desk.{Page, Place}
-use Rattle.parts.specs.Parts.{asPage, asPlace, pagesOf, places_of, parts_of, Whole}
+use Rattle.parts.specs.Parts.{as_page, as_place, pages_of, places_of, parts_of, Whole}
 use Rattle.parts.proofs.Beside.{set-beside}
 use Rattle.parts.proofs.Lines.{set-pages}
 use Rattle.desk.specs.Changes.{set_at}
@@ -17,7 +17,7 @@ use Rattle.parts.specs.Puts.{PagePut, PlacePut}
 
 -- ---- the stores that do it
 pub page-put : (book : Book) (working rows : List (List ℕ)) (i : ℕ) (l : PageLine) (t r : List ℕ)
-    → PagePut book working rows i (asPage l t r) (record { pages = set book.pages i l; places = book.places })
+    → PagePut book working rows i (as_page l t r) (record { pages = set book.pages i l; places = book.places })
     (set working i t) (set rows i r)
 page-put book working rows i l t r =
     record {
@@ -28,12 +28,12 @@ page-put book working rows i l t r =
 
 pub place-put : (book : Book) (learned : List (List ℕ)) (found : Found) (i : ℕ) (l : PlaceLine) (t : List ℕ)
     → found ≡ At i
-    → PlacePut book learned found (asPlace l t) (record { pages = book.pages; places = set book.places i l })
+    → PlacePut book learned found (as_place l t) (record { pages = book.pages; places = set book.places i l })
     (set learned i t)
 place-put book learned found i l t e =
     record {
       pages = refl;
-      places = rw e (set-beside asPlace book.places learned i l t);
+      places = rw e (set-beside as_place book.places learned i l t);
       sizes = (length-set book.places i l, length-set learned i t);
     }
 
@@ -47,7 +47,7 @@ pub page-as : {book next : Book} {working rows working' rows' : List (List ℕ)}
 page-as {book = book} {working = working} {rows = rows} {i = i} e p =
     record {
       places = p.places;
-      pages = p.pages ∙ ap (set (pagesOf book.pages working rows) i) e;
+      pages = p.pages ∙ ap (set (pages_of book.pages working rows) i) e;
       sizes = p.sizes;
     }
 

@@ -7,21 +7,21 @@ use Rattle.parts.specs.declared.Sought.{Sought}
 use Rattle.parts.specs.declared.Sought.TheVariants.{Used, Learned, Free}
 use Rattle.parts.specs.declared.PageLine.{PageLine}
 use Rattle.parts.specs.declared.PlaceLine.{PlaceLine}
-use Rattle.desk.specs.Places.{isLearned, sameKey, isUnder}
+use Rattle.desk.specs.Places.{is_learned, same_key, is_under}
 
 -- an index that was found is within
-abbrev pub foundBelow : ℕ → Found → Type 0
-foundBelow n (At i) = i < n
-foundBelow n Nothing = Unit {0}
+abbrev pub found_below : ℕ → Found → Type 0
+found_below n (At i) = i < n
+found_below n Nothing = Unit {0}
 
 -- what a search looks for, of a line's state and key
-abbrev pub isSought : Sought → ℕ → Key → Bool
-isSought (Used k) state mine = isUnder state mine k
-isSought (Learned k) state mine = isLearned state && sameKey mine k
-isSought Free state mine = eqb state 0
+abbrev pub is_sought : Sought → ℕ → Key → Bool
+is_sought (Used k) state mine = is_under state mine k
+is_sought (Learned k) state mine = is_learned state && same_key mine k
+is_sought Free state mine = eqb state 0
 
-abbrev pub pageSought : Sought → PageLine → Bool
-pageSought s l = isSought s l.state l.key
+abbrev pub page_sought : Sought → PageLine → Bool
+page_sought s l = is_sought s l.state l.key
 
-abbrev pub placeSought : Sought → PlaceLine → Bool
-placeSought s l = isSought s l.state l.key
+abbrev pub place_sought : Sought → PlaceLine → Bool
+place_sought s l = is_sought s l.state l.key

@@ -3,13 +3,13 @@ use Rattle.std.specs.Prelude.{ℕ, ◌≡◌, List, length, set}
 use Rattle.parts.specs.declared.Book.{Book}
 use Rattle.desk.specs.declared.Found.{Found}
 use Rattle.desk.specs.Desk.{Page, Place}
-use Rattle.parts.specs.Parts.{pagesOf, places_of}
+use Rattle.parts.specs.Parts.{pages_of, places_of}
 use Rattle.desk.specs.Changes.{set_at}
 
 pub record PagePut (book : Book) (working rows : List (List ℕ)) (i : ℕ) (page : Page) (next : Book)
     (working' rows' : List (List ℕ)) : Type 0 where
   pub places : next.places ≡ book.places
-  pub pages : pagesOf next.pages working' rows' ≡ set (pagesOf book.pages working rows) i page
+  pub pages : pages_of next.pages working' rows' ≡ set (pages_of book.pages working rows) i page
   pub sizes : (length next.pages ≡ length book.pages) × (length working' ≡ length working)
       × (length rows' ≡ length rows)
 

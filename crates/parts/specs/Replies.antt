@@ -5,21 +5,21 @@ use Rattle.parts.specs.declared.Book.{Book}
 use Rattle.parts.specs.declared.Parts.{Parts}
 use Rattle.parts.specs.declared.Reply.{Reply}
 use Rattle.desk.specs.Desk.{Outcome}
-use Rattle.parts.specs.Parts.{deskOf, Whole}
+use Rattle.parts.specs.Parts.{desk_of, Whole}
 use Rattle.desk.specs.Calls.{Call}
-use Rattle.desk.specs.Allowed.{refusedAs, Allowed}
+use Rattle.desk.specs.Allowed.{refused_as, Allowed}
 
-abbrev pub refusedBy : ℕ → Book → Reply
-refusedBy n book = record { answer = refusedAs n; book = book }
+abbrev pub refused_by : ℕ → Book → Reply
+refused_by n book = record { answer = refused_as n; book = book }
 
-abbrev pub doneBy : ℕ → ℕ → ℕ → Book → Reply
-doneBy len s n book = record { answer = record { number = 0; length = len; shifts = s; revisits = n }; book = book }
+abbrev pub done_by : ℕ → ℕ → ℕ → Book → Reply
+done_by len s n book = record { answer = record { number = 0; length = len; shifts = s; revisits = n }; book = book }
 
 -- the desk that a call leaves, with its answer
-abbrev pub outcomeOf : Answer → Parts → Outcome
-outcomeOf r q = record { answer = r; desk = deskOf q }
+abbrev pub outcome_of : Answer → Parts → Outcome
+outcome_of r q = record { answer = r; desk = desk_of q }
 
 -- the parts p are asked c; the answer r, the parts q and the lent buffer are allowed, and every part keeps its size
 pub record Serves (p : Parts) (c : Call) (r : Answer) (q : Parts) (after : List ℕ) : Type 0 where
-  pub allowed : Allowed (deskOf p) c (outcomeOf r q) after
+  pub allowed : Allowed (desk_of p) c (outcome_of r q) after
   pub whole : Whole q

@@ -1,12 +1,12 @@
 // The desk's parts in memory: the lines of its book, how they are found, and how a page and a place are put.
 ghost use Rattle.std.specs.Prelude.{◌≡◌, ◌<◌, length, drop};
-ghost use Rattle.limits.specs.Limits.{maxPages, maxPlaces};
-ghost use Rattle.desk.specs.Places.{noKey, zeroTable, unusedPage, freePlace, emptyDesk, sameKey, isUnder, findBy};
-ghost use Rattle.desk.specs.Places.{isFound};
-ghost use Rattle.parts.specs.Parts.{asPage, asPlace, parts_of, deskOf, Whole};
-ghost use Rattle.parts.specs.Finding.{foundBelow, isSought, pageSought, placeSought};
+ghost use Rattle.limits.specs.Limits.{max_pages, max_places};
+ghost use Rattle.desk.specs.Places.{no_key, zero_table, unused_page, free_place, empty_desk, same_key, is_under, find_by};
+ghost use Rattle.desk.specs.Places.{is_found};
+ghost use Rattle.parts.specs.Parts.{as_page, as_place, parts_of, desk_of, Whole};
+ghost use Rattle.parts.specs.Finding.{found_below, is_sought, page_sought, place_sought};
 ghost use Rattle.parts.specs.Puts.{PagePut, PlacePut};
-ghost use Rattle.parts.specs.Replies.{refusedBy, doneBy};
+ghost use Rattle.parts.specs.Replies.{refused_by, done_by};
 
 use desk::{Answer, Found, Key};
 use estimate::Table;
@@ -64,7 +64,7 @@ pub enum Sought {
 
 // What unused room holds.
 pub fn no_key() -> Key
-    ensures { result ≡ noKey }
+    ensures { result ≡ no_key }
 {
     Key {
         school: 0,
@@ -74,21 +74,21 @@ pub fn no_key() -> Key
 
 // Both numbers, the school and the class.
 pub fn same_key(a: Key, b: Key) -> bool
-    ensures { result ≡ sameKey a b }
+    ensures { result ≡ same_key a b }
 {
     (a.school == b.school) & (a.class == b.class)
 }
 
 // Used, and under the key.
 fn is_under(state: u64, mine: Key, key: Key) -> bool
-    ensures { result ≡ isUnder state mine key }
+    ensures { result ≡ is_under state mine key }
 {
     (state != 0) & same_key(mine, key)
 }
 
 // Whether a line is what is looked for.
 fn is_sought(state: u64, mine: Key, sought: Sought) -> bool
-    ensures { result ≡ isSought sought state mine }
+    ensures { result ≡ is_sought sought state mine }
 {
     match sought {
         Sought::Used(key) => is_under(state, mine, key),
@@ -99,7 +99,7 @@ fn is_sought(state: u64, mine: Key, sought: Sought) -> bool
 
 // The first such page from a slot on.
 pub fn find_page(pages: [PageLine; PAGES], from: usize, sought: Sought) -> Found
-    ensures { (result ≡ findBy (pageSought sought) (drop from pages) from) × foundBelow maxPages result }
+    ensures { (result ≡ find_by (page_sought sought) (drop from pages) from) × found_below max_pages result }
 {
     let mut i = from;
     while i < PAGES {
@@ -114,7 +114,7 @@ pub fn find_page(pages: [PageLine; PAGES], from: usize, sought: Sought) -> Found
 
 // The first such place from one on.
 pub fn find_place(places: [PlaceLine; PLACES], from: usize, sought: Sought) -> Found
-    ensures { (result ≡ findBy (placeSought sought) (drop from places) from) × foundBelow maxPlaces result }
+    ensures { (result ≡ find_by (place_sought sought) (drop from places) from) × found_below max_places result }
 {
     let mut i = from;
     while i < PLACES {
@@ -129,7 +129,7 @@ pub fn find_place(places: [PlaceLine; PLACES], from: usize, sought: Sought) -> F
 
 // Whether there was one.
 pub fn is_found(found: Found) -> bool
-    ensures { result ≡ isFound found }
+    ensures { result ≡ is_found found }
 {
     match found {
         Found::At(_) => true,
@@ -147,8 +147,8 @@ pub fn put_page<'a>(
     table: Table,
     last: [u8; ROW],
 ) -> Book
-    requires { (i < maxPages) × (length working.old ≡ maxPages) × (length rows.old ≡ maxPages) }
-    ensures { PagePut book working.old rows.old i (asPage page table.entries last)
+    requires { (i < max_pages) × (length working.old ≡ max_pages) × (length rows.old ≡ max_pages) }
+    ensures { PagePut book working.old rows.old i (as_page page table.entries last)
         result working.new rows.new }
 {
     let entries = table.entries;
@@ -167,8 +167,8 @@ pub fn put_place(
     place: PlaceLine,
     table: Table,
 ) -> Book
-    requires { foundBelow maxPlaces found × (length learned.old ≡ maxPlaces) }
-    ensures { PlacePut book learned.old found (asPlace place table.entries) result
+    requires { found_below max_places found × (length learned.old ≡ max_places) }
+    ensures { PlacePut book learned.old found (as_place place table.entries) result
         learned.new }
 {
     let Found::At(i) = found else {
@@ -183,7 +183,7 @@ pub fn put_place(
 
 // The table of what is unused.
 fn zero_table() -> Table
-    ensures { result ≡ zeroTable }
+    ensures { result ≡ zero_table }
 {
     Table {
         entries: [0u8; CONTEXTS],
@@ -197,8 +197,8 @@ pub fn clear_page<'a>(
     rows: &'a mut [[u8; ROW]; PAGES],
     i: usize,
 ) -> Book
-    requires { (i < maxPages) × (length working.old ≡ maxPages) × (length rows.old ≡ maxPages) }
-    ensures { PagePut book working.old rows.old i unusedPage result working.new
+    requires { (i < max_pages) × (length working.old ≡ max_pages) × (length rows.old ≡ max_pages) }
+    ensures { PagePut book working.old rows.old i unused_page result working.new
         rows.new }
 {
     let page = PageLine {
@@ -212,8 +212,8 @@ pub fn clear_page<'a>(
 
 // A place that is free again, where one was found: all of it is zero.
 pub fn clear_place(book: Book, learned: &mut [[u8; CONTEXTS]; PLACES], found: Found) -> Book
-    requires { foundBelow maxPlaces found × (length learned.old ≡ maxPlaces) }
-    ensures { PlacePut book learned.old found freePlace result learned.new }
+    requires { found_below max_places found × (length learned.old ≡ max_places) }
+    ensures { PlacePut book learned.old found free_place result learned.new }
 {
     let place = PlaceLine {
         state: 0,
@@ -228,7 +228,7 @@ pub fn emptied<'a>(
     rows: &'a mut [[u8; ROW]; PAGES],
     learned: &'a mut [[u8; CONTEXTS]; PLACES],
 ) -> Book
-    ensures { (deskOf (parts_of result working.new rows.new learned.new) ≡ emptyDesk)
+    ensures { (desk_of (parts_of result working.new rows.new learned.new) ≡ empty_desk)
         × Whole (parts_of
         result working.new rows.new learned.new) }
 {
@@ -250,7 +250,7 @@ pub fn emptied<'a>(
 
 // A refusal: its number, and the book as it was.
 pub fn refused(n: u64, book: Book) -> Reply
-    ensures { result ≡ refusedBy n book }
+    ensures { result ≡ refused_by n book }
 {
     Reply {
         answer: Answer {
@@ -265,7 +265,7 @@ pub fn refused(n: u64, book: Book) -> Reply
 
 // An accepted call: its length, S, the pels revisited, and the book after it.
 pub fn done(len: u64, shifts: u64, revisits: u64, book: Book) -> Reply
-    ensures { result ≡ doneBy len shifts revisits book }
+    ensures { result ≡ done_by len shifts revisits book }
 {
     Reply {
         answer: Answer {

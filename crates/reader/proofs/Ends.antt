@@ -15,43 +15,43 @@ use Rattle.estimate.specs.declared.Table.{Table}
 use Rattle.estimate.proofs.LawfulEntries.{Sized, row_sized}
 use Rattle.octets.specs.Octets.{finish, ended}
 use Rattle.octets.specs.Lift.{lift}
-use Rattle.store.specs.Store.{inFront, cleared}
-use Rattle.template.specs.Pels.{rowBytes, bandTo}
-use Rattle.band.specs.Band.{written, lastRow}
+use Rattle.store.specs.Store.{in_front, cleared}
+use Rattle.template.specs.Pels.{row_bytes, band_to}
+use Rattle.band.specs.Band.{written, last_row}
 use Rattle.band.proofs.Revisits.{band-size}
-use Rattle.row.specs.QEngine.{qEngine}
-use Rattle.row.proofs.QEngine.{qIsEngine}
-use Rattle.unique.specs.QCoder.{qReader}
-use Rattle.unique.proofs.QCoder.{qCoder}
+use Rattle.row.specs.QEngine.{q_engine}
+use Rattle.row.proofs.QEngine.{q_is_engine}
+use Rattle.unique.specs.QCoder.{q_reader}
+use Rattle.unique.proofs.QCoder.{q_coder}
 use Rattle.unique.proofs.BandPels.{band-pels}
 use Rattle.reader.specs.declared.Progress.{Progress}
 use Rattle.reader.specs.Reads.{BandRead}
-use Rattle.reader.specs.Found.{rowsFit, notRead, readAnswer, readOut, BandFound}
+use Rattle.reader.specs.Found.{rows_fit, not_read, read_answer, read_out, BandFound}
 
 module _ (width rows : ℕ) (table : Table) (last given out₀ above : List ℕ) (r : Progress) (out : List ℕ)
     (b : BandRead width last given table.entries out₀ above r out rows)
     (lasts : List ℕ) (e : lasts ≡ ended (finish (lift r.coder [])))
-    (fits : rowsFit width rows out₀ ≡ true) where
+    (fits : rows_fit width rows out₀ ≡ true) where
   abbrev t₀ : List ℕ
   t₀ = table.entries
 
   shifts-is : (written width rows t₀ last b.band).shifts ≡ r.coder.interval.count
   unfolding written
-  shifts-is = end-shifts qEngine qIsEngine width _ b.from _ _ r.coder r.revisits _ b.first b.done.coded
+  shifts-is = end-shifts q_engine q_is_engine width _ b.from _ _ r.coder r.revisits _ b.first b.done.coded
 
   revisits-is : (written width rows t₀ last b.band).revisits ≡ r.revisits
   unfolding written
-  revisits-is = end-revisits qEngine qIsEngine width _ b.from _ _ r.coder r.revisits _ b.first
+  revisits-is = end-revisits q_engine q_is_engine width _ b.from _ _ r.coder r.revisits _ b.first
       b.done.coded
 
   table_is : (written width rows t₀ last b.band).table ≡ r.table.entries
   unfolding written
-  table_is = ap (λ (m : Page). m.table) (end-model qEngine qIsEngine width _ b.from _ _ r.coder r.revisits _
+  table_is = ap (λ (m : Page). m.table) (end-model q_engine q_is_engine width _ b.from _ _ r.coder r.revisits _
       b.first b.done.coded)
 
   last-is : 1 ≤ rows → (written width rows t₀ last b.band).last ≡ above
-  unfolding written lastRow
-  last-is h = sym (b.lastIs h)
+  unfolding written last_row
+  last-is h = sym (b.last_is h)
 
   -- how the bytes compared, with the last of them
   abbrev Agreed : ℕ → Bool → Type 0
@@ -61,7 +61,7 @@ module _ (width rows : ℕ) (table : Table) (last given out₀ above : List ℕ)
   good-code : (n : ℕ) → n ≡ r.at + length lasts → Agreed n true → (written width rows t₀ last b.band).code ≡ given
   unfolding written
   good-code n k h =
-      verdict-good qEngine qIsEngine qReader Sized qCoder row_sized width given _ b.from _ _ r.coder
+      verdict-good q_engine q_is_engine q_reader Sized q_coder row_sized width given _ b.from _ _ r.coder
       r.revisits r.at r.good _ b.first b.done n (k ∙ ap (λ (l : List ℕ). r.at + length l) e)
       (subst (λ (l : List ℕ). ((r.good && matches given r.at l) && eqb (n - 1) (length given)) ≡ true) e h)
 
@@ -70,10 +70,10 @@ module _ (width rows : ℕ) (table : Table) (last given out₀ above : List ℕ)
       → (written width rows t₀ last band).code ≡ given → ⊥
   unfolding written
   no_code n k h band w =
-      verdict-damaged qEngine qIsEngine qReader Sized qCoder row_sized width given _ b.from _ _ r.coder
+      verdict-damaged q_engine q_is_engine q_reader Sized q_coder row_sized width given _ b.from _ _ r.coder
       r.revisits r.at r.good _ b.first b.done n (k ∙ ap (λ (l : List ℕ). r.at + length l) e)
       (subst (λ (l : List ℕ). ((r.good && matches given r.at l) && eqb (n - 1) (length given)) ≡ false) e h)
-      (bandTo width band rows) (band-pels width band rows)
+      (band_to width band rows) (band-pels width band rows)
       (band-size width band rows ∙ sym (band-size width b.band rows)) w
 
   module _ (n : ℕ) (count : n ≡ r.at + length lasts) (some-rows : 1 ≤ rows) where
@@ -82,63 +82,63 @@ module _ (width rows : ℕ) (table : Table) (last given out₀ above : List ℕ)
         (record {
           room = true;
           good = true;
-          length = rows * rowBytes width;
+          length = rows * row_bytes width;
           shifts = r.coder.interval.count;
           revisits = r.revisits;
           table = record { entries = r.table.entries };
           last = above;
         }) out
-    unfolding readAnswer readOut inFront
+    unfolding read_answer read_out in_front
     read_done h =
         record {
           found = some b.band;
-          right = λ k. (b.isBand, good-code n count h);
+          right = λ k. (b.is_band, good-code n count h);
           answer = rw fits
               (λ i. record {
                 room = true;
                 good = true;
-                length = sym b.isBand.size i;
+                length = sym b.is_band.size i;
                 shifts = sym shifts-is i;
                 revisits = sym revisits-is i;
                 table = record { entries = sym table_is i };
                 last = sym (last-is some-rows) i;
               });
-          lent = rw fits (b.front ∙ ap (λ (k : ℕ). b.band ++ drop k out₀) (sym b.isBand.size));
+          lent = rw fits (b.front ∙ ap (λ (k : ℕ). b.band ++ drop k out₀) (sym b.is_band.size));
         }
 
     pub read-damaged : Agreed n false
         → (after : List ℕ) → after ≡ cleared out → length out ≡ length out₀
         → BandFound width rows table last given out₀
-        (notRead true table last) after
-    unfolding readAnswer readOut cleared
+        (not_read true table last) after
+    unfolding read_answer read_out cleared
     read-damaged h after a l =
         record {
           found = none;
-          right = λ k band isBand w. no_code n count h band w;
+          right = λ k band is_band w. no_code n count h band w;
           answer = rw fits refl;
           lent = a ∙ ap (λ (k : ℕ). replicate k 0) l;
         }
 
 -- no room: the code is not looked at
-pub read-nothing : (width rows : ℕ) (table : Table) (last given out₀ after : List ℕ) → rowsFit width rows out₀ ≡ false
+pub read-nothing : (width rows : ℕ) (table : Table) (last given out₀ after : List ℕ) → rows_fit width rows out₀ ≡ false
     → after ≡ cleared out₀
     → BandFound width rows table last given out₀
-    (notRead false table last) after
-unfolding readAnswer readOut
+    (not_read false table last) after
+unfolding read_answer read_out
 read-nothing width rows table last given out₀ after f a =
     record { found = none; right = λ k. absurd (no_way (sym k ∙ f)); answer = rw f refl; lent = a }
 
-pub fits-when : (width rows bytes' : ℕ) (out : List ℕ) → bytes' ≡ rowBytes width → rows * bytes' ≤ length out
-    → rowsFit width rows out ≡ true
-unfolding rowsFit
+pub fits-when : (width rows bytes' : ℕ) (out : List ℕ) → bytes' ≡ row_bytes width → rows * bytes' ≤ length out
+    → rows_fit width rows out ≡ true
+unfolding rows_fit
 fits-when width rows bytes' out e h =
-    le-leb (rows * rowBytes width) (length out) (subst (λ (k : ℕ). rows * k ≤ length out) e h)
+    le-leb (rows * row_bytes width) (length out) (subst (λ (k : ℕ). rows * k ≤ length out) e h)
 
-pub fits_not : (width rows bytes' : ℕ) (out : List ℕ) → bytes' ≡ rowBytes width → length out < rows * bytes'
-    → rowsFit width rows out ≡ false
-unfolding rowsFit
+pub fits_not : (width rows bytes' : ℕ) (out : List ℕ) → bytes' ≡ row_bytes width → length out < rows * bytes'
+    → rows_fit width rows out ≡ false
+unfolding rows_fit
 fits_not width rows bytes' out e h =
-    lt-leb (rows * rowBytes width) (length out) (subst (λ (k : ℕ). length out < rows * k) e h)
+    lt-leb (rows * row_bytes width) (length out) (subst (λ (k : ℕ). length out < rows * k) e h)
 
 pub as-compared : (g s r : Bool) (n len : ℕ) (v : Bool) → s ≡ g → r ≡ (s && eqb n len) → r ≡ v → (g && eqb n len) ≡ v
 as-compared g s r n len v e f h = ap (λ (b : Bool). b && eqb n len) (sym e) ∙ sym f ∙ h

@@ -7,28 +7,28 @@ use mathlib.Core.Bool.{Bool, true}
 use mathlib.Core.List.{List}
 use lib.ListN.{get_or, set}
 use lib.Seq.{set-get_or}
-use Rattle.limits.specs.Limits.{maxWidth}
+use Rattle.limits.specs.Limits.{max_width}
 use Rattle.engine.specs.Followed.{matches, Told}
 use Rattle.engine.proofs.Matching.{with-true}
-use Rattle.estimate.specs.Estimate.{rowOf}
+use Rattle.estimate.specs.Estimate.{row_of}
 use Rattle.exact.specs.Sight.{Sight}
 use Rattle.octets.proofs.Runs.{in-steps}
-use Rattle.template.specs.Pels.{pelsTo, context}
+use Rattle.template.specs.Pels.{pels_to, context}
 use Rattle.template.specs.declared.Window.{Window}
 use Rattle.template.proofs.Sliding.{slid-context}
-use Rattle.template.specs.White.{Under, whiteWindow}
+use Rattle.template.specs.White.{Under, white_window}
 use Rattle.template.proofs.White.{slid-white}
 use Rattle.sight.specs.declared.View.{View}
 use Rattle.sight.specs.Views.{sight_of}
-use Rattle.sight.specs.Still.{viewBy}
-use Rattle.sight.proofs.Still.{view-none, view-more, stillTold, told-still}
+use Rattle.sight.specs.Still.{view_by}
+use Rattle.sight.proofs.Still.{view-none, view-more, still_told, told-still}
 use Rattle.top.specs.declared.Top.{Top}
 use Rattle.top.specs.Top.{narrowed}
 use Rattle.top.proofs.Moved.{narrowed_none, narrowed-more}
-use Rattle.top_row.specs.TopRow.{topEngine, given, stillPel}
-use Rattle.top_row.proofs.TopEngine.{topIsEngine}
-use Rattle.top_row.proofs.TopPels.{topSeven}
-use Rattle.unique.specs.QCoder.{qReader}
+use Rattle.top_row.specs.TopRow.{top_engine, given, still_pel}
+use Rattle.top_row.proofs.TopEngine.{top_is_engine}
+use Rattle.top_row.proofs.TopPels.{top_seven}
+use Rattle.unique.specs.QCoder.{q_reader}
 use Rattle.reader.specs.RowRead.{InSight}
 use Rattle.reader.proofs.ReadRow.{RowRead, read_told, read-turn}
 
@@ -36,7 +36,7 @@ use Rattle.reader.proofs.ReadRow.{RowRead, read_told, read-turn}
 abbrev pub ReadTo : ℕ → List ℕ → List ℕ → Top → List ℕ → ℕ → ℕ → Bool → View → List ℕ → List ℕ → Top → Window → View
     → ℕ → ℕ → Bool → ℕ → Type 0
 ReadTo width above t₀ c₀ code at₀ n₀ good₀ v₀ row t c w v at n good x =
-    RowRead topEngine topIsEngine topSeven qReader width above t₀ c₀ code at₀ n₀ good₀ (sight_of v₀ c₀.width code)
+    RowRead top_engine top_is_engine top_seven q_reader width above t₀ c₀ code at₀ n₀ good₀ (sight_of v₀ c₀.width code)
     row t c w (sight_of v c.width code) at n good x
     × InSight code v
 
@@ -46,47 +46,47 @@ told-so n q r p x h k = omega (arith, mul-le-mul_right p h)
 
 -- the window behind a run is small
 pub white-small : (over : List ℕ) (x : ℕ) → ((y : ℕ) → get_or over y 0 ≤ 1)
-    → ((whiteWindow over x).above < 32) × ((whiteWindow over x).this < 4)
+    → ((white_window over x).above < 32) × ((white_window over x).this < 4)
 white-small over x b = (omega (arith, b (x + 2)), omega arith)
 
 -- ---- white pels in context 0, whose entry expects white: told as such by the code
 module _ (width : ℕ) (over t₀ : List ℕ) (c₀ : Top) (code : List ℕ) (at₀ n₀ : ℕ) (good₀ : Bool) (v₀ : View)
     (row t : List ℕ) (at n : ℕ) (good : Bool)
-    (white : get_or t 0 0 % 2 ≡ 0) (b : (y : ℕ) → get_or over y 0 ≤ 1) (narrow : width ≤ maxWidth) where
+    (white : get_or t 0 0 % 2 ≡ 0) (b : (y : ℕ) → get_or over y 0 ≤ 1) (narrow : width ≤ max_width) where
   abbrev e : ℕ
   e = get_or t 0 0
 
   abbrev q : ℕ
-  q = rowOf e
+  q = row_of e
 
   abbrev r₀ : Sight
   r₀ = sight_of v₀ c₀.width code
 
   abbrev On : Top → View → ℕ → Type 0
-  On c v x = ReadTo width over t₀ c₀ code at₀ n₀ good₀ v₀ row t c (whiteWindow over x) v at n good x
+  On c v x = ReadTo width over t₀ c₀ code at₀ n₀ good₀ v₀ row t c (white_window over x) v at n good x
 
   -- one of them: row, table, place, count and comparison stay
   one : (c : Top) (v : View) (x : ℕ) → On c v x → x < width → 4096 + q ≤ c.width → q * 2 ^ v.look ≤ v.x
       → get_or over (x + 2) 0 ≡ 0
-      → On (narrowed q c) (viewBy q v) (suc x)
+      → On (narrowed q c) (view_by q v) (suc x)
   unfolding matches
   one c v x f h wide told a =
-      let cx : 0 ≡ context over (pelsTo row x) x = sym (omega (arith, a)) ∙ slid-context over (pelsTo row x) x
-      (whiteWindow over x) f.0.slid in
+      let cx : 0 ≡ context over (pels_to row x) x = sym (omega (arith, a)) ∙ slid-context over (pels_to row x) x
+      (white_window over x) f.0.slid in
       let s : get_or over (suc x + 2) 0 ≡ get_or over (x + 3) 0 = ap (λ (k : ℕ). get_or over k 0) (omega arith) in
       let r : set row (x / 8) (get_or row (x / 8) 0 + 0) ≡ row = ap (set row (x / 8)) (omega arith) ∙ set-get_or row
       (x / 8) 0 in
       let i = f.1 in
       let k = told-still c v code e f.0.done.coded.ready.1 wide told i.within i.near i.small in (
-        subst (λ (l : List ℕ). RowRead topEngine topIsEngine topSeven qReader width over t₀ c₀ code at₀ n₀ good₀ r₀ l t
-            (narrowed q c) (whiteWindow over (suc x)) (sight_of (viewBy q v) (c.width - q) code) at n good
+        subst (λ (l : List ℕ). RowRead top_engine top_is_engine top_seven q_reader width over t₀ c₀ code at₀ n₀ good₀ r₀ l t
+            (narrowed q c) (white_window over (suc x)) (sight_of (view_by q v) (c.width - q) code) at n good
             (suc x)) r
-            (read-turn topEngine topIsEngine topSeven qReader width over t₀ c₀ code at₀ n₀ good₀ r₀ row t c
-            (whiteWindow over x) _ at n good x f.0 (given (stillPel c e)) h narrow true 0 0 0 _ t
-            (whiteWindow over (suc x)) at n good b cx
-            (subst (λ (p : ℕ). Told topEngine qReader c (sight_of v c.width code) e true p
-            (sight_of (viewBy q v) (c.width - q) code) (given (stillPel c e))) white
-            (read_told c v code e (stillTold c v e) k))
+            (read-turn top_engine top_is_engine top_seven q_reader width over t₀ c₀ code at₀ n₀ good₀ r₀ row t c
+            (white_window over x) _ at n good x f.0 (given (still_pel c e)) h narrow true 0 0 0 _ t
+            (white_window over (suc x)) at n good b cx
+            (subst (λ (p : ℕ). Told top_engine q_reader c (sight_of v c.width code) e true p
+            (sight_of (view_by q v) (c.width - q) code) (given (still_pel c e))) white
+            (read_told c v code e (still_told c v e) k))
             (sym (zero-mul (2 ^ (7 - x % 8)))) (sym (set-get_or t 0 0)) (omega (arith, b (x + 3))) (omega arith)
             (omega arith) refl (sym (with-true good))),
         record { within = k.within; near = k.near; small = k.small },
@@ -98,19 +98,19 @@ module _ (width : ℕ) (over t₀ : List ℕ) (c₀ : Top) (code : List ℕ) (at
       → 4 * w.above + w.this ≡ 0 → y ≤ width → Under over x y → x ≤ y → j ≤ y - x → s ≡ j * q
       → 4096 + s ≤ c.width
       → s * 2 ^ v.look ≤ v.x
-      → On (narrowed s c) (viewBy s v) (x + j)
+      → On (narrowed s c) (view_by s v) (x + j)
   read-run c w v x y j s f z h u l k e room told =
-      subst (λ (m : ℕ). On (narrowed m c) (viewBy m v) (x + j)) (sym e)
-      (in-steps q x y s (λ m o. On (narrowed m c) (viewBy m v) o) step j (omega arith) (omega arith)
+      subst (λ (m : ℕ). On (narrowed m c) (view_by m v) (x + j)) (sym e)
+      (in-steps q x y s (λ m o. On (narrowed m c) (view_by m v) o) step j (omega arith) (omega arith)
       (subst₂ (λ (d : Top) (o : View). On d o x) (sym (narrowed_none c)) (sym (view-none v))
       (subst (λ (o : Window). ReadTo width over t₀ c₀ code at₀ n₀ good₀ v₀ row t c o v at n good x)
-      (slid-white over (pelsTo row x) x w f.0.slid z) f)))
+      (slid-white over (pels_to row x) x w f.0.slid z) f)))
     where
-      step : (m o : ℕ) → x ≤ o → o < y → m + q ≤ s → On (narrowed m c) (viewBy m v) o
-          → On (narrowed (m + q) c) (viewBy (m + q) v) (suc o)
+      step : (m o : ℕ) → x ≤ o → o < y → m + q ≤ s → On (narrowed m c) (view_by m v) o
+          → On (narrowed (m + q) c) (view_by (m + q) v) (suc o)
       step m o a b g r =
           let p : (m + q) * 2 ^ v.look ≡ m * 2 ^ v.look + q * 2 ^ v.look = add-mul m q (2 ^ v.look) in
           let i : (m + q) * 2 ^ v.look ≤ s * 2 ^ v.look = mul-le-mul_right (2 ^ v.look) g in
           subst₂ (λ (d : Top) (n : View). On d n (suc o)) (narrowed-more m q (m + q) c refl)
           (view-more m q (m + q) v refl)
-          (one (narrowed m c) (viewBy m v) o r (omega arith) (omega arith) (omega arith) (u.pels o a b))
+          (one (narrowed m c) (view_by m v) o r (omega arith) (omega arith) (omega arith) (u.pels o a b))

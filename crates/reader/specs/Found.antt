@@ -2,24 +2,24 @@
 use Rattle.std.specs.Prelude.{◌≡◌, ℕ, ◌*◌, Bool, true, false, cond, List, leb, length}
 use Rattle.std.proofs.Math.Option.{Option, some, none}
 use Rattle.estimate.specs.declared.Table.{Table}
-use Rattle.store.specs.Store.{inFront, cleared}
-use Rattle.template.specs.Pels.{rowBytes}
+use Rattle.store.specs.Store.{in_front, cleared}
+use Rattle.template.specs.Pels.{row_bytes}
 use Rattle.band.specs.Band.{written, Right}
 use Rattle.reader.specs.declared.Read.{Read}
 
 -- the rows are not longer than the buffer
-unfoldable pub rowsFit : ℕ → ℕ → List ℕ → Bool
-rowsFit width rows out = leb (rows * rowBytes width) (length out)
+unfoldable pub rows_fit : ℕ → ℕ → List ℕ → Bool
+rows_fit width rows out = leb (rows * row_bytes width) (length out)
 
 -- Damaged, or no room: nothing is changed.
-abbrev pub notRead : Bool → Table → List ℕ → Read
-notRead room table last =
+abbrev pub not_read : Bool → Table → List ℕ → Read
+not_read room table last =
     record { room = room; good = false; length = 0; shifts = 0; revisits = 0; table = table; last = last }
 
 -- Accepted: S, the pels revisited, the table and the last row after are those of writing that band.
-unfoldable pub readAnswer : Option (List ℕ) → ℕ → ℕ → Table → List ℕ → List ℕ → Read
-readAnswer (some band) width rows table last out =
-    cond (rowsFit width rows out)
+unfoldable pub read_answer : Option (List ℕ) → ℕ → ℕ → Table → List ℕ → List ℕ → Read
+read_answer (some band) width rows table last out =
+    cond (rows_fit width rows out)
     (record {
       room = true;
       good = true;
@@ -29,19 +29,19 @@ readAnswer (some band) width rows table last out =
       table = record { entries = (written width rows table.entries last band).table };
       last = (written width rows table.entries last band).last;
     })
-    (notRead false table last)
-readAnswer none width rows table last out = notRead (rowsFit width rows out) table last
+    (not_read false table last)
+read_answer none width rows table last out = not_read (rows_fit width rows out) table last
 
 -- the band's rows in front and the rest kept; else all zero
-unfoldable pub readOut : Option (List ℕ) → ℕ → ℕ → List ℕ → List ℕ
-readOut (some band) width rows out = cond (rowsFit width rows out) (inFront band out) (cleared out)
-readOut none width rows out = cleared out
+unfoldable pub read_out : Option (List ℕ) → ℕ → ℕ → List ℕ → List ℕ
+read_out (some band) width rows out = cond (rows_fit width rows out) (in_front band out) (cleared out)
+read_out none width rows out = cleared out
 
 -- with room for the rows, what is found is right: a band that would have been written as exactly those bytes, or
 -- nothing where there is none
 pub record BandFound (width rows : ℕ) (table : Table) (last code out : List ℕ) (r : Read) (after : List ℕ) :
     Type 0 where
   pub found : Option (List ℕ)
-  pub right : rowsFit width rows out ≡ true → Right width rows table.entries last code found
-  pub answer : r ≡ readAnswer found width rows table last out
-  pub lent : after ≡ readOut found width rows out
+  pub right : rows_fit width rows out ≡ true → Right width rows table.entries last code found
+  pub answer : r ≡ read_answer found width rows table last out
+  pub lent : after ≡ read_out found width rows out

@@ -1,15 +1,15 @@
 // Bands read back: the reader is the writer, told each pel by the code.
 ghost use Rattle.std.specs.Prelude.{◌≡◌, false, ◌&&◌, [], ◌∷◌, ◌+◌, ◌-◌, ◌*◌, ◌%◌, ◌≤◌, ◌<◌, ◌^◌, eqb, length, take};
-ghost use Rattle.limits.specs.Limits.{maxWidth, maxRows, farthest, maxShifts};
+ghost use Rattle.limits.specs.Limits.{max_width, max_rows, farthest, max_shifts};
 ghost use Rattle.estimate.specs.Estimate.{LawfulTable};
-ghost use Rattle.template.specs.Pels.{rowBytes, pelsTo};
+ghost use Rattle.template.specs.Pels.{row_bytes, pels_to};
 ghost use Rattle.template.specs.White.{Under};
 ghost use Rattle.octets.specs.Fit.{Ready};
 ghost use Rattle.octets.specs.Lift.{lift};
-ghost use Rattle.engine.specs.Followed.{matchAt, matches};
+ghost use Rattle.engine.specs.Followed.{match_at, matches};
 ghost use Rattle.reader.specs.RowRead.{LineRead};
 ghost use Rattle.reader.specs.Reads.{BandRead};
-ghost use Rattle.reader.specs.Found.{notRead, BandFound};
+ghost use Rattle.reader.specs.Found.{not_read, BandFound};
 
 use estimate::Table;
 use limits::ROW;
@@ -39,7 +39,7 @@ pub struct Line {
 
 // Whether a settled byte is the code's; the very first, which is no part of the code, always is.
 pub fn match_one(code: &[u8], at: usize, b: u8) -> bool
-    ensures { result ≡ matchAt code.now at b }
+    ensures { result ≡ match_at code.now at b }
 {
     if at == 0 {
         return true;
@@ -81,9 +81,9 @@ pub fn pel_in_byte(p: u8, x: usize) -> u8
 
 // Where the run at x ends, as far as the row above tells: as it is known, or by a look along that row.
 fn run_end(above: &[u8], width: usize, x: usize, known: usize) -> usize
-    requires { (width ≤ maxWidth) × (width ≤ 8 * length above.now) × (x < width) × (known ≤ width)
-        × Under (pelsTo above.now width) x known }
-    ensures { (x ≤ result) × (result ≤ width) × Under (pelsTo above.now width) x result }
+    requires { (width ≤ max_width) × (width ≤ 8 * length above.now) × (x < width) × (known ≤ width)
+        × Under (pels_to above.now width) x known }
+    ensures { (x ≤ result) × (result ≤ width) × Under (pels_to above.now width) x result }
 {
     if x < known {
         return known;
@@ -94,12 +94,12 @@ fn run_end(above: &[u8], width: usize, x: usize, known: usize) -> usize
 // One row, under the row above it. By the second engine, and with the context as one register: the loop has more
 // numbers at hand than a processor has registers, and so fewer of them go through memory.
 pub fn read_row(code: &[u8], above: &[u8], width: usize, start: Progress) -> Line
-    requires { (width ≤ maxWidth) × (width ≤ 8 * length above.now) × (1 ≤ width)
+    requires { (width ≤ max_width) × (width ≤ 8 * length above.now) × (1 ≤ width)
         × LawfulTable start.table.entries × Ready (lift start.coder [])
-        × (start.coder.interval.count + 12 * maxWidth ≤ maxShifts) × (start.at + 2 * maxWidth ≤ farthest)
+        × (start.coder.interval.count + 12 * max_width ≤ max_shifts) × (start.at + 2 * max_width ≤ farthest)
         × (start.revisits ≤ start.coder.interval.count)
         × (start.view.at ≤ length code.now) × (start.view.look ≤ 7) × (start.view.x < 2 ^ 32) }
-    ensures { LineRead width (pelsTo above.now width) code.now start result }
+    ensures { LineRead width (pels_to above.now width) code.now start result }
 {
     let mut coder = Top::above(start.coder);
     let mut table = start.table;
@@ -190,7 +190,7 @@ pub fn read_rows(
     code: &[u8],
     out: &mut [u8],
 ) -> Rows
-    requires { (1 ≤ width) × (width ≤ maxWidth) × (rows ≤ maxRows) × (rows * rowBytes width ≤ length out.old)
+    requires { (1 ≤ width) × (width ≤ max_width) × (rows ≤ max_rows) × (rows * row_bytes width ≤ length out.old)
         × LawfulTable table.entries }
     ensures { BandRead width last code.now table.entries out.old result.last result.reading
         out.new rows }
@@ -244,7 +244,7 @@ pub fn as_long(same: bool, n: usize, len: usize) -> bool
 
 // Nothing is read, for want of room or of a good code.
 fn not_read(room: bool, table: Table, last: [u8; ROW]) -> Read
-    ensures { result ≡ notRead room table last }
+    ensures { result ≡ not_read room table last }
 {
     Read {
         room: room,
@@ -267,7 +267,7 @@ pub fn read_band(
     code: &[u8],
     out: &mut [u8],
 ) -> Read
-    requires { (1 ≤ width) × (width ≤ maxWidth) × (1 ≤ rows) × (rows ≤ maxRows) × LawfulTable table.entries }
+    requires { (1 ≤ width) × (width ≤ max_width) × (1 ≤ rows) × (rows ≤ max_rows) × LawfulTable table.entries }
     ensures { BandFound width rows table last code.now out.old result out.new }
 {
     let length = rows * template::row_bytes(width);

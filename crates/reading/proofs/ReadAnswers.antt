@@ -9,29 +9,29 @@ use mathlib.Core.List.{List, [], ◌∷◌}
 use lib.Dec.{eqb, leb, ltb}
 use lib.ListN.{length}
 use borrow.Author.Tests.{leb-true, leb-false, lt-ltb, le-ltb}
-use Rattle.limits.specs.Limits.{maxRows, maxCode}
+use Rattle.limits.specs.Limits.{max_rows, max_code}
 use Rattle.ground.proofs.Bools.{no_way}
 use Rattle.ground.specs.Options.{given, or_else}
-use Rattle.store.specs.Store.{inFront, cleared}
-use Rattle.template.specs.Pels.{rowBytes}
+use Rattle.store.specs.Store.{in_front, cleared}
+use Rattle.template.specs.Pels.{row_bytes}
 use Rattle.band.specs.Band.{Written, Right}
 use Rattle.marker.specs.Marker.{marked}
 use Rattle.marker.proofs.Never.{found-unmarked}
 use Rattle.reader.specs.declared.Read.{Read}
-use Rattle.reader.specs.Found.{rowsFit, notRead, readAnswer, readOut, BandFound}
-use Rattle.unique.specs.BandOfCode.{bandOfCode}
+use Rattle.reader.specs.Found.{rows_fit, not_read, read_answer, read_out, BandFound}
+use Rattle.unique.specs.BandOfCode.{band_of_code}
 use Rattle.unique.proofs.OneReader.{right-found}
 use Rattle.desk.specs.declared.Ask.{Ask}
 use Rattle.desk.specs.Desk.{Page, Desk}
-use Rattle.desk.specs.Places.{noPage}
+use Rattle.desk.specs.Places.{no_page}
 use Rattle.desk.specs.Lawful.{within}
 use Rattle.desk.specs.Refusals.{Row, row, refusal, damage, zeroing}
 use Rattle.desk.specs.Calls.{reads}
-use Rattle.desk.specs.Standing.{stand, page_of, openPage}
-use Rattle.desk.specs.Tests.{unlawful, unknown, bandOf, foundIn, tests}
-use Rattle.desk.specs.Effects.{serves, bandIn, effect}
-use Rattle.desk.specs.Allowed.{number, effectOn}
-use Rattle.refusals.proofs.Refusing.{pagedTo, StoodTo, here, past, at-end}
+use Rattle.desk.specs.Standing.{stand, page_of, open_page}
+use Rattle.desk.specs.Tests.{unlawful, unknown, band_of, found_in, tests}
+use Rattle.desk.specs.Effects.{serves, band_in, effect}
+use Rattle.desk.specs.Allowed.{number, effect_on}
+use Rattle.refusals.proofs.Refusing.{paged_to, StoodTo, here, past, at-end}
 
 -- longer than the buffer: not within it
 over : (a b : ℕ) → ltb a b ≡ not (leb b a)
@@ -42,10 +42,10 @@ over a b = go (leb b a) refl
     go false e = lt-ltb a b (leb-false b a e)
 
 -- the tests that need the page
-abbrev onPage : Ask → List ℕ → List ℕ → Page → List Row
-onPage ask code out p =
-    row 9 (ltb (length out) (ask.rows * rowBytes p.width)) ∷ row 15 (marked code)
-    ∷ row 10 (not (given (foundIn bandOfCode p ask.rows code))) ∷ []
+abbrev on_page : Ask → List ℕ → List ℕ → Page → List Row
+on_page ask code out p =
+    row 9 (ltb (length out) (ask.rows * row_bytes p.width)) ∷ row 15 (marked code)
+    ∷ row 10 (not (given (found_in band_of_code p ask.rows code))) ∷ []
 
 -- "damaged" is a refusal, and sets the lent output to zero
 pub damage-is : (m : Bool) → (damage m ≢ 0) × (zeroing (damage m) ≡ true)
@@ -54,7 +54,7 @@ damage-is false = (λ z. omega (arith, z), refl)
 
 -- both sizes that are tested first are right
 abbrev pub sizes : Ask → List ℕ → Bool
-sizes ask code = within 1 ask.rows maxRows && leb (length code) maxCode
+sizes ask code = within 1 ask.rows max_rows && leb (length code) max_code
 
 -- the two tests of size are one
 two-sizes : (u v : Row) (w l : Bool) (rs : List Row)
@@ -64,20 +64,20 @@ two-sizes u v true l rs = refl
 two-sizes u v false l rs = refl
 
 pub read_number : (d : Desk) (ask : Ask) (code out : List ℕ)
-    → number bandOfCode d (reads ask code out)
-    ≡ refusal (pagedTo d ask.key (sizes ask code) 2 (onPage ask code out (page_of (stand d ask.key))))
+    → number band_of_code d (reads ask code out)
+    ≡ refusal (paged_to d ask.key (sizes ask code) 2 (on_page ask code out (page_of (stand d ask.key))))
 unfolding number tests stand
 read_number d ask code out =
     ap (λ (b : Bool). refusal (unlawful (stand d ask.key) ∷ unknown ask.key
-    ∷ row 6 (not (within 1 ask.rows maxRows)) ∷ row 6 b ∷ rest))
-    (over maxCode (length code))
-    ∙ two-sizes (unlawful (stand d ask.key)) (unknown ask.key) (within 1 ask.rows maxRows)
-    (leb (length code) maxCode) rest
+    ∷ row 6 (not (within 1 ask.rows max_rows)) ∷ row 6 b ∷ rest))
+    (over max_code (length code))
+    ∙ two-sizes (unlawful (stand d ask.key)) (unknown ask.key) (within 1 ask.rows max_rows)
+    (leb (length code) max_code) rest
   where
     rest : List Row
     rest =
-        row 2 (not (given (openPage d ask.key))) ∷ row 7 (not (eqb (or_else (openPage d ask.key) noPage).state 2))
-        ∷ onPage ask code out (or_else (openPage d ask.key) noPage)
+        row 2 (not (given (open_page d ask.key))) ∷ row 7 (not (eqb (or_else (open_page d ask.key) no_page).state 2))
+        ∷ on_page ask code out (or_else (open_page d ask.key) no_page)
 
 -- ---- on the page, by what reading gives
 module _ (d : Desk) (ask : Ask) (code out : List ℕ) (i : ℕ) (t : StoodTo d ask.key (sizes ask code) 2 i)
@@ -85,22 +85,22 @@ module _ (d : Desk) (ask : Ask) (code out : List ℕ) (i : ℕ) (t : StoodTo d a
     (at : page_of (stand d ask.key) ≡ page) (r : Read) (after : List ℕ)
     (b : BandFound page.width ask.rows page.table page.last code out r after) where
   abbrev fits : Bool
-  fits = rowsFit page.width ask.rows out
+  fits = rows_fit page.width ask.rows out
 
-  on : number bandOfCode d (reads ask code out)
+  on : number band_of_code d (reads ask code out)
       ≡ refusal (row 9 (not fits) ∷ row 15 (marked code)
-      ∷ row 10 (not (given (foundIn bandOfCode page ask.rows code))) ∷ [])
-  unfolding rowsFit
+      ∷ row 10 (not (given (found_in band_of_code page ask.rows code))) ∷ [])
+  unfolding rows_fit
   on =
-      read_number d ask code out ∙ t.rest _ ∙ ap (λ (p : Page). refusal (onPage ask code out p)) at
+      read_number d ask code out ∙ t.rest _ ∙ ap (λ (p : Page). refusal (on_page ask code out p)) at
       ∙ ap (λ (x : Bool). refusal (row 9 x ∷ row 15 (marked code)
-      ∷ row 10 (not (given (foundIn bandOfCode page ask.rows code))) ∷ []))
-      (over (length out) (ask.rows * rowBytes page.width))
+      ∷ row 10 (not (given (found_in band_of_code page ask.rows code))) ∷ []))
+      (over (length out) (ask.rows * row_bytes page.width))
 
   -- what reading gives, with a band and without room
   abbrev pub answered : List ℕ → Read
   answered band =
-      let w : Written = bandOf page ask.rows band in
+      let w : Written = band_of page ask.rows band in
       record {
         room = true;
         good = true;
@@ -112,14 +112,14 @@ module _ (d : Desk) (ask : Ask) (code out : List ℕ) (i : ℕ) (t : StoodTo d a
       }
 
   abbrev unanswered : Read
-  unanswered = notRead false page.table page.last
+  unanswered = not_read false page.table page.last
 
   -- room is told as it is
   room-is : r.room ≡ fits
-  unfolding readAnswer bandOf
+  unfolding read_answer band_of
   room-is = ap (λ (x : Read). x.room) b.answer ∙ go b.found
     where
-      go : (f : Option (List ℕ)) → (readAnswer f page.width ask.rows page.table page.last out).room ≡ fits
+      go : (f : Option (List ℕ)) → (read_answer f page.width ask.rows page.table page.last out).room ≡ fits
       go none = refl
       go (some band) = by fits
         where
@@ -127,25 +127,25 @@ module _ (d : Desk) (ask : Ask) (code out : List ℕ) (i : ℕ) (t : StoodTo d a
           by true = refl
           by false = refl
 
-  pub read-room : r.room ≡ false → number bandOfCode d (reads ask code out) ≡ 9
+  pub read-room : r.room ≡ false → number band_of_code d (reads ask code out) ≡ 9
   read-room e = on ∙ here _ _ (ap not (sym room-is ∙ e))
 
   pub read-full : r.room ≡ false → after ≡ cleared out
-  unfolding readOut
+  unfolding read_out
   read-full e = b.lent ∙ go b.found
     where
-      go : (f : Option (List ℕ)) → readOut f page.width ask.rows out ≡ cleared out
+      go : (f : Option (List ℕ)) → read_out f page.width ask.rows out ≡ cleared out
       go none = refl
       go (some band) = rw (sym room-is ∙ e)
 
   -- ---- with room, what is found decides
   module _ (room : r.room ≡ true) where
-    found-is : foundIn bandOfCode page ask.rows code ≡ b.found
-    unfolding foundIn
+    found-is : found_in band_of_code page ask.rows code ≡ b.found
+    unfolding found_in
     found-is = sym (right-found page.width ask.rows page.table.entries page.last code b.found
         (b.right (sym room-is ∙ room)))
 
-    told : number bandOfCode d (reads ask code out)
+    told : number band_of_code d (reads ask code out)
         ≡ refusal (row 15 (marked code) ∷ row 10 (not (given b.found)) ∷ [])
     told =
         on ∙ past _ _ (ap not (sym room-is ∙ room))
@@ -153,23 +153,23 @@ module _ (d : Desk) (ask : Ask) (code out : List ℕ) (i : ℕ) (t : StoodTo d a
 
     -- it was told good where a band was found
     good-is : r.good ≡ given b.found
-    unfolding readAnswer
+    unfolding read_answer
     good-is = ap (λ (x : Read). x.good) b.answer ∙ go b.found
       where
-        go : (f : Option (List ℕ)) → (readAnswer f page.width ask.rows page.table page.last out).good
+        go : (f : Option (List ℕ)) → (read_answer f page.width ask.rows page.table page.last out).good
             ≡ given f
         go none = refl
         go (some band) = rw (sym room-is ∙ room)
 
-    pub read-damaged : r.good ≡ false → number bandOfCode d (reads ask code out) ≡ damage (marked code)
+    pub read-damaged : r.good ≡ false → number band_of_code d (reads ask code out) ≡ damage (marked code)
     unfolding refusal
     read-damaged e = told ∙ ap (λ (g : Bool). refusal (row 15 (marked code) ∷ row 10 (not g) ∷ [])) (sym good-is ∙ e)
 
     pub damaged-out : r.good ≡ false → after ≡ cleared out
-    unfolding readOut
+    unfolding read_out
     damaged-out e = b.lent ∙ go b.found (sym good-is ∙ e)
       where
-        go : (f : Option (List ℕ)) → given f ≡ false → readOut f page.width ask.rows out ≡ cleared out
+        go : (f : Option (List ℕ)) → given f ≡ false → read_out f page.width ask.rows out ≡ cleared out
         go none g = refl
         go (some band) g = no_way g
 
@@ -192,25 +192,25 @@ module _ (d : Desk) (ask : Ask) (code out : List ℕ) (i : ℕ) (t : StoodTo d a
           (subst (Right page.width ask.rows page.table.entries page.last code) is-band
           (b.right (sym room-is ∙ room)))
 
-      pub read-end : number bandOfCode d (reads ask code out) ≡ 0
+      pub read-end : number band_of_code d (reads ask code out) ≡ 0
       read-end = told ∙ past _ _ unmarked ∙ past _ _ (ap not (sym good-is ∙ good)) ∙ at-end
 
       pub read-gave : r ≡ answered band
-      unfolding readAnswer bandOf
+      unfolding read_answer band_of
       read-gave =
-          b.answer ∙ ap (λ (f : Option (List ℕ)). readAnswer f page.width ask.rows page.table page.last
+          b.answer ∙ ap (λ (f : Option (List ℕ)). read_answer f page.width ask.rows page.table page.last
           out) is-band
           ∙ rw (sym room-is ∙ room)
 
-      pub read-lent : after ≡ inFront band out
-      unfolding readOut
-      read-lent = b.lent ∙ ap (λ (f : Option (List ℕ)). readOut f page.width ask.rows out) is-band
+      pub read-lent : after ≡ in_front band out
+      unfolding read_out
+      read-lent = b.lent ∙ ap (λ (f : Option (List ℕ)). read_out f page.width ask.rows out) is-band
           ∙ rw (sym room-is ∙ room)
 
-      pub read-effect : effectOn bandOfCode d (reads ask code out) ≡ serves page (bandOf page ask.rows band) band out
+      pub read-effect : effect_on band_of_code d (reads ask code out) ≡ serves page (band_of page ask.rows band) band out
       unfolding effect
       read-effect =
-          ap (λ (p : Page). serves p (bandOf p ask.rows (bandIn bandOfCode p ask.rows code))
-          (bandIn bandOfCode p ask.rows code) out) at
-          ∙ ap (λ (l : List ℕ). serves page (bandOf page ask.rows l) l out)
+          ap (λ (p : Page). serves p (band_of p ask.rows (band_in band_of_code p ask.rows code))
+          (band_in band_of_code p ask.rows code) out) at
+          ∙ ap (λ (l : List ℕ). serves page (band_of page ask.rows l) l out)
           (ap (λ (f : Option (List ℕ)). or_else f []) (found-is ∙ is-band))

@@ -11,17 +11,17 @@ use borrow.Author.Tests.{eq-eqb, ne_eqb}
 use Rattle.desk.specs.declared.Found.{Found}
 use Rattle.desk.specs.declared.Found.TheVariants.{At, Nothing}
 use Rattle.parts.specs.declared.PageLine.{PageLine}
-use Rattle.parts.specs.Lines.{noPageLine}
+use Rattle.parts.specs.Lines.{no_page_line}
 use Rattle.refusals.specs.declared.Stands.{Stands}
 use Rattle.refusals.specs.declared.Stands.TheVariants.{On, Refused}
-use Rattle.refusals.specs.Stands.{onPage, early, standing, standingTo}
+use Rattle.refusals.specs.Stands.{on_page, early, standing, standing_to}
 
-pub on-found : (f : Found) (i : ℕ) → f ≡ At i → On i ≡ onPage f
-unfolding onPage
+pub on-found : (f : Found) (i : ℕ) → f ≡ At i → On i ≡ on_page f
+unfolding on_page
 on-found f i e = rw e
 
-pub on_none : (f : Found) → f ≡ Nothing → Refused 2 ≡ onPage f
-unfolding onPage
+pub on_none : (f : Found) → f ≡ Nothing → Refused 2 ≡ on_page f
+unfolding on_page
 on_none f e = rw e
 
 -- ---- as it is tested
@@ -36,26 +36,26 @@ module _ (good known sized : Bool) (found : Found) where
       go true false s e = ap Refused e
       go false k s e = ap Refused e
 
-  pub went_on : early good known sized ≡ 0 → onPage found ≡ standing good known sized found
+  pub went_on : early good known sized ≡ 0 → on_page found ≡ standing good known sized found
   unfolding standing
   went_on e = go good known sized e
     where
-      go : (g k s : Bool) → early g k s ≡ 0 → onPage found ≡ standing g k s found
+      go : (g k s : Bool) → early g k s ≡ 0 → on_page found ≡ standing g k s found
       go true true true e = refl
       go true true false e = absurd (omega arith)
       go true false s e = absurd (omega arith)
       go false k s e = absurd (omega arith)
 
 module _ (pages : List PageLine) (state : ℕ) (s : Stands) where
-  pub away-still : (n : ℕ) → s ≡ Refused n → s ≡ standingTo pages state s
-  unfolding standingTo
+  pub away-still : (n : ℕ) → s ≡ Refused n → s ≡ standing_to pages state s
+  unfolding standing_to
   away-still n e = rw e
 
   module _ (i : ℕ) (e : s ≡ On i) where
-    pub other_way : (get_or pages i noPageLine).state ≢ state → Refused 7 ≡ standingTo pages state s
-    unfolding standingTo
-    other_way h = rw (e, ne_eqb (get_or pages i noPageLine).state state h)
+    pub other_way : (get_or pages i no_page_line).state ≢ state → Refused 7 ≡ standing_to pages state s
+    unfolding standing_to
+    other_way h = rw (e, ne_eqb (get_or pages i no_page_line).state state h)
 
-    pub right-way : (get_or pages i noPageLine).state ≡ state → On i ≡ standingTo pages state s
-    unfolding standingTo
-    right-way h = rw (e, eq-eqb (get_or pages i noPageLine).state state h)
+    pub right-way : (get_or pages i no_page_line).state ≡ state → On i ≡ standing_to pages state s
+    unfolding standing_to
+    right-way h = rw (e, eq-eqb (get_or pages i no_page_line).state state h)

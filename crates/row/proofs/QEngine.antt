@@ -16,7 +16,7 @@ use Rattle.octets.proofs.Loops.{behind, behind-pel, behind-finish, pel-count}
 use Rattle.octets.proofs.Ending.{ended-behind}
 use Rattle.octets.proofs.OnePel.{ready-bare}
 use Rattle.band.proofs.Revisits.{q-counts}
-use Rattle.row.specs.QEngine.{qEngine}
+use Rattle.row.specs.QEngine.{q_engine}
 
 -- the bytes before stay before
 lift-behind : (c : Coder) (xs : List ℕ) → lift c xs ≡ behind xs (lift c [])
@@ -44,8 +44,8 @@ ended_some w =
       length-append w.settled (w.held ∷ []),
     )
 
-pub qIsEngine : IsEngine qEngine
-qIsEngine =
+pub q_is_engine : IsEngine q_engine
+q_is_engine =
     record {
       puts = λ q e c d xs ys k. ap (pel (decision q e)) (lift-behind c xs) ∙ behind-pel (decision q e) xs (lift c [])
           ∙ ap (behind xs) k;

@@ -12,12 +12,12 @@ use Rattle.ground.proofs.Bools.{no_way}
 use Rattle.coder.specs.Writing.{counted}
 use Rattle.coder.specs.Page.{Page}
 use Rattle.engine.specs.Engine.{Engine}
-use Rattle.engine.specs.Coded.{Gives, rowPage, shiftsOf, LawfulTable, page_of, Stored}
+use Rattle.engine.specs.Coded.{Gives, row_page, shifts_of, LawfulTable, page_of, Stored}
 use Rattle.engine.specs.Coded as any
 use Rattle.engine.proofs.Engine.{IsEngine}
 use Rattle.engine.proofs.Coded.{page-within, page-full, page-lawful, lawful-page, coded-revisits, stored-none}
 use Rattle.engine.proofs.Coded.{stored-pel, stored-length}
-use Rattle.estimate.specs.Estimate.{rowOf, next}
+use Rattle.estimate.specs.Estimate.{row_of, next}
 use Rattle.interval.specs.Interval.{decision, part_of}
 use Rattle.octets.specs.declared.Coder.{Coder}
 use Rattle.octets.specs.declared.Put.{Put}
@@ -25,19 +25,19 @@ use Rattle.octets.specs.Octets.{pel}
 use Rattle.octets.specs.Lift.{lift, settled_of}
 use Rattle.octets.proofs.Runs.{pel-upper}
 use Rattle.store.specs.Store.{stores}
-use Rattle.template.specs.Pels.{pelAt, pelsTo, context}
+use Rattle.template.specs.Pels.{pel_at, pels_to, context}
 use Rattle.template.specs.declared.Window.{Window}
 use Rattle.template.specs.Window.{Slid}
 use Rattle.template.proofs.Sliding.{slid-on, slid-small, length-pels, pels-bits, pel-bit}
-use Rattle.row.specs.QEngine.{qEngine}
-use Rattle.row.specs.WrittenRow.{Pelled, stillPel, movedPel}
+use Rattle.row.specs.QEngine.{q_engine}
+use Rattle.row.specs.WrittenRow.{Pelled, still_pel, moved_pel}
 
 -- ---- one pel, by the first engine
-pub pelled-still : (c : Coder) (e : ℕ) → 4096 + rowOf e ≤ c.interval.width → Pelled c e true (stillPel c e)
+pub pelled-still : (c : Coder) (e : ℕ) → 4096 + row_of e ≤ c.interval.width → Pelled c e true (still_pel c e)
 pelled-still c e h =
-    let n : any.shifted_by qEngine c e true ≡ false = le-ltb (c.interval.width - rowOf e) 4096 (omega arith) in
+    let n : any.shifted_by q_engine c e true ≡ false = le-ltb (c.interval.width - row_of e) 4096 (omega arith) in
     record {
-      puts = pel-upper (rowOf e) (lift c []) h;
+      puts = pel-upper (row_of e) (lift c []) h;
       entry = rw n;
       revisited = sym n;
       quiet = λ z. refl;
@@ -46,11 +46,11 @@ pelled-still c e h =
     }
 
 pub pelled-moved : (c : Coder) (e : ℕ) (b : Bool) (u : Put) (n : ℕ)
-    → (part_of (decision (rowOf e) b) c.interval).width < 4096
-    → pel (decision (rowOf e) b) (lift c []) ≡ lift u.coder (settled_of u) → u.settled ≤ 2 → n ≡ next b e
-    → Pelled c e b (movedPel u n)
+    → (part_of (decision (row_of e) b) c.interval).width < 4096
+    → pel (decision (row_of e) b) (lift c []) ≡ lift u.coder (settled_of u) → u.settled ≤ 2 → n ≡ next b e
+    → Pelled c e b (moved_pel u n)
 pelled-moved c e b u n h r f k =
-    let m : any.shifted_by qEngine c e b ≡ true = lt-ltb (part_of (decision (rowOf e) b) c.interval).width 4096 h in
+    let m : any.shifted_by q_engine c e b ≡ true = lt-ltb (part_of (decision (row_of e) b) c.interval).width 4096 h in
     record {
       puts = r;
       entry = rw m k;
@@ -65,21 +65,21 @@ pelled-moved c e b u n h r f k =
 abbrev pub Seven : Engine → Type 0
 Seven E = (above this : List ℕ) (x : ℕ) → E.scheme.template above this x ≡ context above this x
 
-pub qSeven : Seven qEngine
-qSeven above this x = refl
+pub q_seven : Seven q_engine
+q_seven above this x = refl
 
 module _ (E : Engine) (K : IsEngine E) (seven : Seven E) (width : ℕ) (above row t₀ : List ℕ) (c₀ : E.Registers)
     (out₀ : List ℕ) (at₀ n₀ : ℕ) where
   -- x pels of the row are written
   pub record RowAt (t : List ℕ) (c : E.Registers) (w : Window) (out : List ℕ) (at n x : ℕ) : Type 0 where
-    pub done : Stored E width (page_of E width t₀ above []) c₀ n₀ out₀ at₀ (pelsTo row x)
-        (page_of E width t above (pelsTo row x)) c n out at
-    pub slid : Slid above (pelsTo row x) x w
+    pub done : Stored E width (page_of E width t₀ above []) c₀ n₀ out₀ at₀ (pels_to row x)
+        (page_of E width t above (pels_to row x)) c n out at
+    pub slid : Slid above (pels_to row x) x w
     pub passed : x ≤ width
 
   pub row-start : (w : Window) → Slid above [] 0 w → LawfulTable E t₀ → E.Ready c₀
       → RowAt t₀ c₀ w out₀ at₀ n₀ 0
-  unfolding pelsTo
+  unfolding pels_to
   row-start w s l r =
       record {
         done = stored-none E K width (page_of E width t₀ above []) c₀ n₀ out₀ at₀ (lawful-page E width t₀ above [] l) r;
@@ -90,18 +90,18 @@ module _ (E : Engine) (K : IsEngine E) (seven : Seven E) (width : ℕ) (above ro
   -- the numbers in the loop
   module _ (t : List ℕ) (c : E.Registers) (w : Window) (out : List ℕ) (at n x : ℕ) (r : RowAt t c w out at n x) where
     pub row-window : ((y : ℕ) → get_or above y 0 ≤ 1) → (w.above < 32) × (w.this < 4)
-    row-window b = slid-small above (pelsTo row x) x w b (pels-bits row x) r.slid
+    row-window b = slid-small above (pels_to row x) x w b (pels-bits row x) r.slid
 
     pub row_lawful : LawfulTable E t
-    row_lawful = page-lawful E width t above (pelsTo row x) r.done.coded.lawful
+    row_lawful = page-lawful E width t above (pels_to row x) r.done.coded.lawful
 
-    pub row_count : shiftsOf E c ≤ shiftsOf E c₀ + 12 * x
+    pub row_count : shifts_of E c ≤ shifts_of E c₀ + 12 * x
     row_count = omega (arith, r.done.coded.count, length-pels row x)
 
     pub row-place : at ≤ at₀ + 2 * x
     row-place = omega (arith, r.done.place, r.done.coded.few, length-pels row x)
 
-    pub row-revisits : n₀ ≤ shiftsOf E c₀ → n ≤ shiftsOf E c
+    pub row-revisits : n₀ ≤ shifts_of E c₀ → n ≤ shifts_of E c
     row-revisits h = coded-revisits E K width _ c₀ n₀ _ _ c n _ r.done.coded h
 
     pub row-length : length out ≡ length out₀
@@ -109,14 +109,14 @@ module _ (E : Engine) (K : IsEngine E) (seven : Seven E) (width : ℕ) (above ro
 
     -- a pel p more, in the context cx
     pub row-again : (v : Gives E.Registers) → x < width → (cx p : ℕ) (t' : List ℕ) (w' : Window) (out' : List ℕ)
-        (at' n' : ℕ) → ((y : ℕ) → get_or above y 0 ≤ 1) → cx ≡ context above (pelsTo row x) x → p ≡ pelAt row x
+        (at' n' : ℕ) → ((y : ℕ) → get_or above y 0 ≤ 1) → cx ≡ context above (pels_to row x) x → p ≡ pel_at row x
         → any.Pelled E c (get_or t cx 0) (eqb p (get_or t cx 0 % 2)) v → t' ≡ set t cx v.entry
         → w'.above ≡ (2 * w.above + get_or above (x + 3) 0) % 32 → w'.this ≡ (2 * w.this + p) % 4
         → out' ≡ stores out at v.bytes → at' ≡ at + v.settled → n' ≡ counted v.revisited n
         → RowAt t' v.registers w' out' at' n' (suc x)
-    unfolding pelsTo
+    unfolding pels_to
     row-again v h cx p t' w' out' at' n' b ec ep k et wa wt eo ea en =
-        let this : List ℕ = pelsTo row x in
+        let this : List ℕ = pels_to row x in
         let l : length this ≡ x = length-pels row x in
         let ec' : cx ≡ E.scheme.template above this (length this) = ec ∙ ap (context above this) (sym l)
         ∙ sym (seven above this (length this)) in
@@ -134,11 +134,11 @@ module _ (E : Engine) (K : IsEngine E) (seven : Seven E) (width : ℕ) (above ro
         }
 
     -- the whole row
-    pub row_done : 1 ≤ width → x ≡ width → Stored E width (rowPage t₀ above) c₀ n₀ out₀ at₀ (pelsTo row width)
-        (rowPage t (pelsTo row width)) c n out at
+    pub row_done : 1 ≤ width → x ≡ width → Stored E width (row_page t₀ above) c₀ n₀ out₀ at₀ (pels_to row width)
+        (row_page t (pels_to row width)) c n out at
     row_done h e =
-        let this : List ℕ = pelsTo row width in
+        let this : List ℕ = pels_to row width in
         subst₂ (λ (m₀ m : Page). Stored E width m₀ c₀ n₀ out₀ at₀ this m c n out at)
         (page-within E width t₀ above [] h) (page-full E width t above this (length-pels row width))
-        (subst (λ (y : ℕ). Stored E width (page_of E width t₀ above []) c₀ n₀ out₀ at₀ (pelsTo row y)
-        (page_of E width t above (pelsTo row y)) c n out at) e r.done)
+        (subst (λ (y : ℕ). Stored E width (page_of E width t₀ above []) c₀ n₀ out₀ at₀ (pels_to row y)
+        (page_of E width t above (pels_to row y)) c n out at) e r.done)

@@ -12,15 +12,15 @@ use borrow.Author.Tests.{eq-eqb}
 use Rattle.engine.specs.Engine.{Engine}
 use Rattle.engine.specs.Coded.{Gives, Pelled}
 use Rattle.engine.proofs.Engine.{IsEngine}
-use Rattle.octets.specs.Runs.{stillBy}
+use Rattle.octets.specs.Runs.{still_by}
 use Rattle.octets.proofs.Runs.{still-more, still-none, in-steps}
 use Rattle.store.specs.Store.{stores}
-use Rattle.template.specs.Pels.{pelAt, pelsTo, context}
+use Rattle.template.specs.Pels.{pel_at, pels_to, context}
 use Rattle.template.specs.declared.Window.{Window}
 use Rattle.template.proofs.Sliding.{slid-context}
-use Rattle.template.specs.White.{Clear, whiteWindow}
+use Rattle.template.specs.White.{Clear, white_window}
 use Rattle.template.proofs.White.{slid-white}
-use Rattle.row.specs.QEngine.{qEngine}
+use Rattle.row.specs.QEngine.{q_engine}
 use Rattle.row.proofs.WrittenRow.{Seven, pelled-still, RowAt, row-again}
 
 -- a pel that leaves its context's entry as it is and settles nothing
@@ -37,11 +37,11 @@ pub record Stills (E : Engine) : Type 0 where
   pub pelled : (c : E.Registers) (e : ℕ) → E.Ready c → 4096 + E.scheme.size e ≤ width c
       → Pelled E c e true (stays (by (E.scheme.size e) c) e)
 
-abbrev pub qStills : Stills qEngine
-qStills =
+abbrev pub q_stills : Stills q_engine
+q_stills =
     record {
       width = λ c. c.interval.width;
-      by = stillBy;
+      by = still_by;
       none = still-none;
       more = λ m n c. still-more m n (m + n) c refl;
       narrow = λ m c. refl;
@@ -59,21 +59,21 @@ module _ (E : Engine) (K : IsEngine E) (S : Stills E) (seven : Seven E) (width :
   q = E.scheme.size e
 
   abbrev On : E.Registers → ℕ → Type 0
-  On c x = RowAt E K seven width above row t₀ c₀ out₀ at₀ n₀ t c (whiteWindow above x) out at n x
+  On c x = RowAt E K seven width above row t₀ c₀ out₀ at₀ n₀ t c (white_window above x) out at n x
 
   -- one of them: table, buffer, place and count stay
-  one : (c : E.Registers) (x : ℕ) → On c x → x < width → 4096 + q ≤ S.width c → pelAt row x ≡ 0
+  one : (c : E.Registers) (x : ℕ) → On c x → x < width → 4096 + q ≤ S.width c → pel_at row x ≡ 0
       → get_or above (x + 2) 0 ≡ 0 → On (S.by q c) (suc x)
   unfolding stores
   one c x r h wide p a =
-      let cx : 0 ≡ context above (pelsTo row x) x = sym (omega (arith, a)) ∙ slid-context above (pelsTo row x) x
-      (whiteWindow above x) r.slid in
+      let cx : 0 ≡ context above (pels_to row x) x = sym (omega (arith, a)) ∙ slid-context above (pels_to row x) x
+      (white_window above x) r.slid in
       let s : get_or above (suc x + 2) 0 ≡ get_or above (x + 3) 0 = ap (λ (k : ℕ). get_or above k 0) (omega arith) in
       let k : Pelled E c e (eqb 0 (e % 2)) (stays (S.by q c) e)
       = subst (λ (v : Bool). Pelled E c e v (stays (S.by q c) e)) (sym (eq-eqb 0 (e % 2) (sym white)))
       (S.pelled c e r.done.coded.ready wide) in
-      row-again E K seven width above row t₀ c₀ out₀ at₀ n₀ t c (whiteWindow above x) out at n x r
-      (stays (S.by q c) e) h 0 0 t (whiteWindow above (suc x)) out at n b cx (sym p) k (sym (set-get_or t 0 0))
+      row-again E K seven width above row t₀ c₀ out₀ at₀ n₀ t c (white_window above x) out at n x r
+      (stays (S.by q c) e) h 0 0 t (white_window above (suc x)) out at n b cx (sym p) k (sym (set-get_or t 0 0))
       (omega (arith, b (x + 3))) (omega arith) refl (omega arith) refl
 
   -- as the code has it: m of the pels up to y, from a window that is white, are one step
@@ -85,7 +85,7 @@ module _ (E : Engine) (K : IsEngine E) (S : Stills E) (seven : Seven E) (width :
       (in-steps q x y (S.width c - 4096) (λ k v. On (S.by k c) v) step m (omega arith) (omega arith)
       (subst (λ (d : E.Registers). On d x) (sym (S.none c))
       (subst (λ (v : Window). RowAt E K seven width above row t₀ c₀ out₀ at₀ n₀ t c v out at n x)
-      (slid-white above (pelsTo row x) x w r.slid z) r)))
+      (slid-white above (pels_to row x) x w r.slid z) r)))
     where
       step : (k v : ℕ) → x ≤ v → v < y → k + q ≤ S.width c - 4096 → On (S.by k c) v → On (S.by (k + q) c) (suc v)
       step k v a b g u =

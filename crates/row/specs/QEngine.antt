@@ -7,13 +7,13 @@ use Rattle.octets.specs.declared.Coder.{Coder}
 use Rattle.octets.specs.Octets.{pel, finish, ended}
 use Rattle.octets.specs.Fit.{Ready}
 use Rattle.octets.specs.Lift.{lift}
-use Rattle.band.specs.Band.{qScheme, qWriter}
+use Rattle.band.specs.Band.{q_scheme, q_writer}
 
-abbrev pub qEngine : Engine
-qEngine =
+abbrev pub q_engine : Engine
+q_engine =
     record {
-      scheme = qScheme;
-      writer = qWriter;
+      scheme = q_scheme;
+      writer = q_writer;
       Lawful = LawfulEntry;
       Registers = Coder;
       stands = lift;

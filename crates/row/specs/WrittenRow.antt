@@ -1,14 +1,14 @@
 -- What a pel gives, and a row that was written, whole. Assumes nothing.
 use Rattle.std.specs.Prelude.{ℕ, Bool, true, false, List, ◌∷◌, [], take}
-use Rattle.engine.specs.Coded.{Gives, rowPage, Stored}
+use Rattle.engine.specs.Coded.{Gives, row_page, Stored}
 use Rattle.engine.specs.Coded as any
-use Rattle.estimate.specs.Estimate.{rowOf}
+use Rattle.estimate.specs.Estimate.{row_of}
 use Rattle.octets.specs.declared.Coder.{Coder}
 use Rattle.octets.specs.declared.Put.{Put}
-use Rattle.octets.specs.Runs.{stillBy}
-use Rattle.template.specs.Pels.{pelsTo}
+use Rattle.octets.specs.Runs.{still_by}
+use Rattle.template.specs.Pels.{pels_to}
 use Rattle.row.specs.declared.Pel.{Pel}
-use Rattle.row.specs.QEngine.{qEngine}
+use Rattle.row.specs.QEngine.{q_engine}
 
 -- ---- one pel: the registers, the entry, whether it shifted, the bytes settled
 abbrev pub given : Pel → Gives Coder
@@ -21,15 +21,15 @@ given v = record {
 }
 
 abbrev pub Pelled : Coder → ℕ → Bool → Pel → Type 0
-Pelled c e b v = any.Pelled qEngine c e b (given v)
+Pelled c e b v = any.Pelled q_engine c e b (given v)
 
 -- an expected pel with no shift: its size is taken, and that is all
-abbrev pub stillPel : Coder → ℕ → Pel
-stillPel c e = record { coder = stillBy (rowOf e) c; entry = e; revisited = false; settled = 0; first = 0; second = 0 }
+abbrev pub still_pel : Coder → ℕ → Pel
+still_pel c e = record { coder = still_by (row_of e) c; entry = e; revisited = false; settled = 0; first = 0; second = 0 }
 
 -- a pel that shifts, from what the octets say of it
-abbrev pub movedPel : Put → ℕ → Pel
-movedPel u n = record {
+abbrev pub moved_pel : Put → ℕ → Pel
+moved_pel u n = record {
   coder = u.coder;
   entry = n;
   revisited = true;
@@ -41,4 +41,4 @@ movedPel u n = record {
 -- ---- a whole row, under the pels of the row above it
 abbrev pub RowDone : ℕ → List ℕ → List ℕ → List ℕ → Coder → List ℕ → ℕ → ℕ → List ℕ → Coder → List ℕ → ℕ → ℕ → Type 0
 RowDone width above row t₀ c₀ out₀ at₀ n₀ t c out at n =
-    Stored qEngine width (rowPage t₀ above) c₀ n₀ out₀ at₀ (pelsTo row width) (rowPage t (pelsTo row width)) c n out at
+    Stored q_engine width (row_page t₀ above) c₀ n₀ out₀ at₀ (pels_to row width) (row_page t (pels_to row width)) c n out at

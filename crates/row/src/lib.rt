@@ -1,12 +1,12 @@
 // A row written: white runs at once, other pels one by one.
 ghost use Rattle.std.specs.Prelude.{◌≡◌, [], ◌+◌, ◌-◌, ◌*◌, ◌%◌, ◌≤◌, ◌<◌, true, length};
-ghost use Rattle.estimate.specs.Estimate.{rowOf, LawfulEntry, LawfulTable};
+ghost use Rattle.estimate.specs.Estimate.{row_of, LawfulEntry, LawfulTable};
 ghost use Rattle.octets.specs.Fit.{Ready};
 ghost use Rattle.octets.specs.Lift.{lift};
-ghost use Rattle.template.specs.Pels.{pelsTo};
+ghost use Rattle.template.specs.Pels.{pels_to};
 ghost use Rattle.template.specs.White.{Clear};
-ghost use Rattle.limits.specs.Limits.{maxWidth, farthest, maxShifts};
-ghost use Rattle.row.specs.WrittenRow.{stillPel, movedPel, Pelled, RowDone};
+ghost use Rattle.limits.specs.Limits.{max_width, farthest, max_shifts};
+ghost use Rattle.row.specs.WrittenRow.{still_pel, moved_pel, Pelled, RowDone};
 
 use estimate::Table;
 use octets::{Coder, Put};
@@ -41,8 +41,8 @@ pub struct Run {
 
 // An expected pel with no shift: most are such.
 fn still_pel(coder: Coder, e: u8, q: u64) -> Pel
-    requires { (q ≡ rowOf e) × (0x1000 + q ≤ coder.interval.width) × Ready (lift coder []) }
-    ensures { result ≡ stillPel coder e }
+    requires { (q ≡ row_of e) × (0x1000 + q ≤ coder.interval.width) × Ready (lift coder []) }
+    ensures { result ≡ still_pel coder e }
 {
     let next = coder.still(q);
     Pel {
@@ -57,7 +57,7 @@ fn still_pel(coder: Coder, e: u8, q: u64) -> Pel
 
 // A pel that shifted, and its context's next entry.
 fn moved_pel(v: Put, entry: u8) -> Pel
-    ensures { result ≡ movedPel v entry }
+    ensures { result ≡ moved_pel v entry }
 {
     let next = v.coder;
     Pel {
@@ -73,7 +73,7 @@ fn moved_pel(v: Put, entry: u8) -> Pel
 // One pel in the context whose entry is e: the expected one, or the other. Each has its own way, so that neither asks
 // again which it is.
 fn put_pel(coder: Coder, e: u8, expected: bool) -> Pel
-    requires { Ready (lift coder []) × LawfulEntry e × (coder.interval.count < maxShifts) }
+    requires { Ready (lift coder []) × LawfulEntry e × (coder.interval.count < max_shifts) }
     ensures { Pelled coder e expected result }
 {
     let q = estimate::row_of(e);
@@ -108,9 +108,9 @@ pub fn starts_run(white: u8, cx: usize, p: u8, width: usize) -> bool
 
 // Where the run at x ends: as it is known, or by a look along both rows.
 pub fn run_end(row: &[u8], above: &[u8], width: usize, x: usize, known: usize) -> usize
-    requires { (width ≤ maxWidth) × (width ≤ 8 * length row.now) × (width ≤ 8 * length above.now) × (x < width)
-        × Clear row.now (pelsTo above.now width) width x known }
-    ensures { (x ≤ result) × Clear row.now (pelsTo above.now width) width x result }
+    requires { (width ≤ max_width) × (width ≤ 8 * length row.now) × (width ≤ 8 * length above.now) × (x < width)
+        × Clear row.now (pels_to above.now width) width x known }
+    ensures { (x ≤ result) × Clear row.now (pels_to above.now width) width x result }
 {
     if x < known {
         return known;
@@ -120,11 +120,11 @@ pub fn run_end(row: &[u8], above: &[u8], width: usize, x: usize, known: usize) -
 
 // One row, under the row above it.
 pub fn write_row(row: &[u8], above: &[u8], width: usize, start: Run, out: &mut [u8]) -> Run
-    requires { (width ≤ maxWidth) × (width ≤ 8 * length row.now) × (width ≤ 8 * length above.now) × (1 ≤ width)
+    requires { (width ≤ max_width) × (width ≤ 8 * length row.now) × (width ≤ 8 * length above.now) × (1 ≤ width)
         × LawfulTable start.table.entries × Ready (lift start.coder [])
-        × (start.coder.interval.count + 12 * maxWidth ≤ maxShifts) × (start.at + 2 * maxWidth ≤ farthest)
+        × (start.coder.interval.count + 12 * max_width ≤ max_shifts) × (start.at + 2 * max_width ≤ farthest)
         × (start.revisits ≤ start.coder.interval.count) }
-    ensures { RowDone width (pelsTo above.now width) row.now start.table.entries
+    ensures { RowDone width (pels_to above.now width) row.now start.table.entries
         start.coder out.old start.at start.revisits result.table.entries result.coder
         out.new result.at result.revisits }
 {

@@ -6,25 +6,25 @@ use Prim.Native.Nat.{ℕ, zero, suc}
 use native.Mathlib.Omega.{arith}
 use borrow.Author.Tests.{ne_eqb}
 use Rattle.turns.specs.Service.{refused}
-use Rattle.turns.proofs.Shelves.{no_slot, noClassPlace}
-use Rattle.turns.proofs.SlotDesk.{SlotOutcome, slotStep, slotSettle, slotAdmit}
+use Rattle.turns.proofs.Shelves.{no_slot, no_class_place}
+use Rattle.turns.proofs.SlotDesk.{SlotOutcome, slot_step, slot_settle, slot_admit}
 use Rattle.estimate.specs.declared.Table.{Table}
 use Rattle.band.specs.Band.{Reader}
 use Rattle.desk.specs.declared.Key.{Key}
 use Rattle.desk.specs.Desk.{Page, Desk}
 use Rattle.desk.specs.Lawful.{lawful}
 use Rattle.desk.specs.Refusals.{refusal}
-use Rattle.desk.specs.Calls.{Call, key_of, lentTo}
+use Rattle.desk.specs.Calls.{Call, key_of, lent_to}
 use Rattle.desk.specs.Standing.{stand}
 use Rattle.desk.specs.Tests.{tests}
 use Rattle.desk.specs.Effects.{Effect, effect}
 use Rattle.desk.specs.Changes.{changed}
-use Rattle.desk.specs.Allowed.{done, unless, unlessLent, number, effectOn, outcome, lent}
+use Rattle.desk.specs.Allowed.{done, unless, unless_lent, number, effect_on, outcome, lent}
 use Rattle.kept.proofs.View.{K, shelves}
 use Rattle.kept.proofs.Sound.{Sound, lawful-sound}
 use Rattle.kept.proofs.Cells.{cell_of}
-use Rattle.kept.proofs.Stored.{cellAfter}
-use Rattle.kept.proofs.Room.{roomy, withRoom, ForRoom}
+use Rattle.kept.proofs.Stored.{cell_after}
+use Rattle.kept.proofs.Room.{roomy, with_room, ForRoom}
 use Rattle.kept.proofs.Law.{CallLaw, law}
 use Rattle.kept.proofs.Kept.{under-is, sound-is, slot-wanted, place-wanted, call-stored}
 use Rattle.serial.specs.Run.{Step, step_of, mark_of, step}
@@ -46,10 +46,10 @@ module _ (R : Reader) where
     k = key_of c
 
     abbrev e : Effect
-    e = effectOn R.finds d c
+    e = effect_on R.finds d c
 
     abbrev y : DeskCell
-    y = cellAfter (cell_of d k) e.page e.learned
+    y = cell_after (cell_of d k) e.page e.learned
 
     s : Sound d
     s = lawful-sound d h
@@ -65,35 +65,35 @@ module _ (R : Reader) where
     unfolding act
     act-is =
         ap (λ (u : DeskCell). decide (refusal (tests R.finds c (meets u))) c (doing (effect R.finds c (meets u)))
-        (cellAfter (cell_of d k)
+        (cell_after (cell_of d k)
         (effect R.finds c (meets u)).page (effect R.finds c (meets u)).learned)) (sym (under-is d s k))
-        ∙ ap (λ (f : Effect). decide n₀ c (doing f) (cellAfter (cell_of d k) f.page f.learned)) l.same
+        ∙ ap (λ (f : Effect). decide n₀ c (doing f) (cell_after (cell_of d k) f.page f.learned)) l.same
 
     -- and with the room
-    number_is : number R.finds d c ≡ withRoom n₀ (no_slot K Table Page (shelves d) k y)
-        (noClassPlace K Table Page (shelves d) k y)
+    number_is : number R.finds d c ≡ with_room n₀ (no_slot K Table Page (shelves d) k y)
+        (no_class_place K Table Page (shelves d) k y)
     unfolding number
     number_is = rw (slot-wanted d s k e.page e.learned, place-wanted d s k e.page e.learned)
         (l.last (sound-is d k ∙ h))
 
     by_number : (m : ℕ) → number R.finds d c ≡ m
         → step R d c ≡ step_of (unless m d (done e (changed d k e.page e.learned)))
-        (unlessLent m (lentTo c) e.lent)
+        (unless_lent m (lent_to c) e.lent)
     unfolding outcome lent
     by_number m f = rw f
 
-    pub alike : Alike (step R d c) (slotStep (bureau R) (shelves d) c)
-    unfolding slotStep slotSettle slotAdmit decide mark_of
-    alike = go n₀ refl (no_slot K Table Page (shelves d) k y) refl (noClassPlace K Table Page (shelves d) k y) refl
+    pub alike : Alike (step R d c) (slot_step (bureau R) (shelves d) c)
+    unfolding slot_step slot_settle slot_admit decide mark_of
+    alike = go n₀ refl (no_slot K Table Page (shelves d) k y) refl (no_class_place K Table Page (shelves d) k y) refl
       where
-        numbered : (m : ℕ) (p q : Bool) → n₀ ≡ m → no_slot K Table Page (shelves d) k y ≡ p → noClassPlace K Table Page
+        numbered : (m : ℕ) (p q : Bool) → n₀ ≡ m → no_slot K Table Page (shelves d) k y ≡ p → no_class_place K Table Page
             (shelves d) k y ≡ q → number
-            R.finds d c ≡ withRoom m p q
+            R.finds d c ≡ with_room m p q
         numbered m p q a f g = number_is ∙ rw (a, f, g)
 
         go : (m : ℕ) → n₀ ≡ m → (p : Bool) → no_slot K Table Page (shelves d) k y ≡ p → (q : Bool)
-            → noClassPlace K Table Page (shelves d) k y ≡ q
-            → Alike (step R d c) (slotStep (bureau R) (shelves d) c)
+            → no_class_place K Table Page (shelves d) k y ≡ q
+            → Alike (step R d c) (slot_step (bureau R) (shelves d) c)
         go (suc m) a p f q g =
             rw (by_number (suc m) (numbered (suc m) p q a f g), act-is, a)
             (record {

@@ -10,11 +10,11 @@ use borrow.Author.Tests.{eqb-true}
 use Rattle.turns.specs.Service.{accepted, refused, crowded}
 use Rattle.turns.proofs.Accepted.{AllAccepted}
 use Rattle.turns.proofs.Shelves.{frees}
-use Rattle.turns.proofs.SlotDesk.{Slotted, slotStep, slotRun, slotAfter}
+use Rattle.turns.proofs.SlotDesk.{Slotted, slot_step, slot_run, slot_after}
 use Rattle.turns.proofs.SlotDesk as slots
 use Rattle.band.specs.Band.{Reader}
 use Rattle.desk.specs.Desk.{Desk}
-use Rattle.desk.specs.Places.{emptyDesk, unusedPage, freePlace}
+use Rattle.desk.specs.Places.{empty_desk, unused_page, free_place}
 use Rattle.desk.specs.Lawful.{lawful}
 use Rattle.desk.specs.Calls.{Call}
 use Rattle.kept.proofs.View.{shelves}
@@ -25,27 +25,27 @@ use Rattle.serial.proofs.Bridge.{Alike, alike}
 
 module _ (R : Reader) where
   pub record SameRun (d : Desk) (cs : List Call) : Type 0 where
-    pub answers : run R d cs ≡ slotRun (bureau R) (shelves d) cs
-    pub ends : shelves (after R d cs) ≡ slotAfter (bureau R) (shelves d) cs
+    pub answers : run R d cs ≡ slot_run (bureau R) (shelves d) cs
+    pub ends : shelves (after R d cs) ≡ slot_after (bureau R) (shelves d) cs
     pub stays : lawful (after R d cs) ≡ true
 
   pub same-run : (cs : List Call) (d : Desk) → lawful d ≡ true → SameRun d cs
-  unfolding run after slotRun slotAfter
+  unfolding run after slot_run slot_after
   same-run [] d h = record { answers = refl; ends = refl; stays = h }
   same-run (c ∷ cs) d h = go (alike R d h c) (same-run cs (step R d c).desk (call-lawful R d h c))
     where
-      go : Alike R (step R d c) (slotStep (bureau R) (shelves d) c) → SameRun (step R d c).desk cs → SameRun d (c ∷ cs)
+      go : Alike R (step R d c) (slot_step (bureau R) (shelves d) c) → SameRun (step R d c).desk cs → SameRun d (c ∷ cs)
       go a ih =
           record {
             answers = λ i. record { call = c; mark = a.mark i; output = a.output i }
-                ∷ (ih.answers ∙ ap (λ (s : Slotted (bureau R)). slotRun
+                ∷ (ih.answers ∙ ap (λ (s : Slotted (bureau R)). slot_run
                 (bureau R) s cs) a.desk) i;
-            ends = ih.ends ∙ ap (λ (s : Slotted (bureau R)). slotAfter (bureau R) s cs) a.desk;
+            ends = ih.ends ∙ ap (λ (s : Slotted (bureau R)). slot_after (bureau R) s cs) a.desk;
             stays = ih.stays;
           }
 
-  pub empty-shelves : shelves emptyDesk ≡ slots.emptyDesk (bureau R)
-  unfolding shelves emptyDesk unusedPage freePlace frees
+  pub empty-shelves : shelves empty_desk ≡ slots.empty_desk (bureau R)
+  unfolding shelves empty_desk unused_page free_place frees
   empty-shelves = refl
 
   done-number : (n : ℕ) → mark_of n ≡ accepted → n ≡ 0

@@ -9,21 +9,21 @@ use Rattle.ground.proofs.Options.{mapped}
 use Rattle.turns.specs.Service.{Kind, opening, band, closing, abandoning, looking, changing}
 use Rattle.turns.proofs.Office.{Cell, Result, refuse, accept, Office, cell, not-accepted}
 use Rattle.turns.proofs.OfficeLaws.{Laws, Keeping}
-use Rattle.limits.specs.Limits.{maxPages, maxPlaces}
+use Rattle.limits.specs.Limits.{max_pages, max_places}
 use Rattle.estimate.specs.declared.Table.{Table}
 use Rattle.band.specs.Band.{Reader}
 use Rattle.desk.specs.declared.Key.{Key}
 use Rattle.desk.specs.Desk.{Page}
-use Rattle.desk.specs.Places.{noPage, sameKey}
+use Rattle.desk.specs.Places.{no_page, same_key}
 use Rattle.desk.proofs.OpenPages.{key-self, key-only}
-use Rattle.desk.specs.Refusals.{refusal, lentAfter}
-use Rattle.desk.specs.Calls.{Call, key_of, lentTo, kind_of}
+use Rattle.desk.specs.Refusals.{refusal, lent_after}
+use Rattle.desk.specs.Calls.{Call, key_of, lent_to, kind_of}
 use Rattle.desk.specs.Standing.{Stand}
 use Rattle.desk.specs.Tests.{tests}
 use Rattle.desk.specs.Effects.{Change, stays, becomes, afterwards, Effect, effect}
-use Rattle.desk.specs.Allowed.{refusedAs, doneAs}
+use Rattle.desk.specs.Allowed.{refused_as, done_as}
 use Rattle.desk.proofs.KindLaws.{KindLaw, kind-law}
-use Rattle.kept.proofs.Stored.{cellAfter}
+use Rattle.kept.proofs.Stored.{cell_after}
 use Rattle.serial.specs.Run.{Output}
 
 abbrev pub DeskCell : Type 0
@@ -31,13 +31,13 @@ DeskCell = Cell Table Page
 
 -- the key's cell at a lawful desk with room
 abbrev pub meets : DeskCell → Stand
-meets x = record { sound = true; page = x.page; learned = x.learned; pageFree = true; placeFree = true }
+meets x = record { sound = true; page = x.page; learned = x.learned; page_free = true; place_free = true }
 
 abbrev pub refusing : ℕ → Call → Output
-refusing n c = record { answer = refusedAs n; lent = lentAfter n (lentTo c) }
+refusing n c = record { answer = refused_as n; lent = lent_after n (lent_to c) }
 
 abbrev pub doing : Effect → Output
-doing e = record { answer = doneAs e; lent = e.lent }
+doing e = record { answer = done_as e; lent = e.lent }
 
 -- refused by its number, or done
 unfoldable pub decide : ℕ → Call → Output → DeskCell → Result Output DeskCell
@@ -47,16 +47,16 @@ decide (suc n) c o y = refuse (refusing (suc n) c)
 module _ (R : Reader) where
   unfoldable pub act : Call → DeskCell → Result Output DeskCell
   act c x = decide (refusal (tests R.finds c (meets x))) c (doing (effect R.finds c (meets x)))
-      (cellAfter x (effect R.finds c
+      (cell_after x (effect R.finds c
       (meets x)).page (effect R.finds c (meets x)).learned)
 
   abbrev pub bureau : Office
   bureau =
       record {
         Key = Key;
-        same = sameKey;
+        same = same_key;
         same_self = key-self;
-        same-only = key-only;
+        same_only = key-only;
         Table = Table;
         Page = Page;
         Call = Call;
@@ -66,8 +66,8 @@ module _ (R : Reader) where
         working = λ (p : Page). p.table;
         act = act;
         refusal = refusing;
-        pages = maxPages;
-        places = maxPlaces;
+        pages = max_pages;
+        places = max_places;
       }
 
   -- ---- the law of each kind
@@ -77,14 +77,14 @@ module _ (R : Reader) where
   decided zero c o p y z e = (refl, cc, cc)
   decided (suc n) c o p y z e = not-accepted e
 
-  taught : (o : Option Page) → given o ≡ true → some (or_else o noPage).table ≡ mapped (λ (p : Page). p.table) o
+  taught : (o : Option Page) → given o ≡ true → some (or_else o no_page).table ≡ mapped (λ (p : Page). p.table) o
   taught none g = no_way (sym g)
   taught (some p) g = refl
 
   module _ (c : Call) (x : DeskCell) (o : Output) (y : DeskCell) (n : refusal (tests R.finds c (meets x)) ≡ 0)
       (p : doing (effect R.finds c
       (meets x)) ≡ o)
-      (q : cellAfter x (effect R.finds c (meets x)).page (effect R.finds c (meets x)).learned ≡ y) where
+      (q : cell_after x (effect R.finds c (meets x)).page (effect R.finds c (meets x)).learned ≡ y) where
     abbrev e : Effect
     e = effect R.finds c (meets x)
 
@@ -102,7 +102,7 @@ module _ (R : Reader) where
     by_kind closing l = (
       l.0 n,
       page-then ∙ ap (afterwards x.page) l.1,
-      learned-then (becomes (or_else x.page noPage).table) l.2
+      learned-then (becomes (or_else x.page no_page).table) l.2
           ∙ taught x.page (l.0 n),
     )
     by_kind abandoning l = (learned-then stays l.2, page-then ∙ ap (afterwards x.page) l.1)

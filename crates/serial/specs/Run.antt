@@ -5,7 +5,7 @@ use Rattle.band.specs.Band.{Reader}
 use Rattle.desk.specs.declared.Key.{Key}
 use Rattle.desk.specs.Desk.{Desk, Outcome}
 use Rattle.desk.specs.declared.Answer.{Answer}
-use Rattle.desk.specs.Places.{sameKey}
+use Rattle.desk.specs.Places.{same_key}
 use Rattle.desk.proofs.OpenPages.{key-self, key-only}
 use Rattle.desk.specs.Calls.{Call, key_of, kind_of}
 use Rattle.desk.specs.Allowed.{outcome, lent}
@@ -34,9 +34,9 @@ mark_of n = cond (eqb n 0) accepted (cond (eqb n 4 || eqb n 5) crowded refused)
 abbrev pub calling : Service
 calling = record {
   Key = Key;
-  same = sameKey;
+  same = same_key;
   same_self = key-self;
-  same-only = key-only;
+  same_only = key-only;
   Call = Call;
   Output = Output;
   key = key_of;

@@ -8,23 +8,23 @@ use borrow.Author.Tests.{le-ltb}
 use mathlib.Core.List.{List}
 use lib.ListN.{length}
 use Rattle.ground.proofs.Tests.{if-ge}
-use Rattle.estimate.specs.Estimate.{rowOf}
+use Rattle.estimate.specs.Estimate.{row_of}
 use Rattle.exact.specs.Sight.{Sight, nearer, supplied, seek, decide, above}
 use Rattle.top.specs.declared.Top.{Top}
-use Rattle.top_row.specs.TopRow.{stillPel}
+use Rattle.top_row.specs.TopRow.{still_pel}
 use Rattle.top_row.proofs.TopPels.{pelled-still}
 use Rattle.sight.specs.declared.View.{View}
 use Rattle.sight.specs.declared.Told.{Told}
 use Rattle.sight.specs.Views.{sight_of, ReadPel}
-use Rattle.sight.specs.Still.{viewBy}
+use Rattle.sight.specs.Still.{view_by}
 
-pub view-none : (v : View) → viewBy 0 v ≡ v
+pub view-none : (v : View) → view_by 0 v ≡ v
 view-none v = λ i. record { x = z v.x (2 ^ v.look) i; look = v.look; last = v.last; at = v.at }
   where
     z : (x p : ℕ) → x - 0 * p ≡ x
     z x p = omega arith
 
-pub view-more : (m n s : ℕ) (v : View) → m + n ≡ s → viewBy n (viewBy m v) ≡ viewBy s v
+pub view-more : (m n s : ℕ) (v : View) → m + n ≡ s → view_by n (view_by m v) ≡ view_by s v
 view-more m n s v e = λ i. record { x = z v.x (2 ^ v.look) i; look = v.look; last = v.last; at = v.at }
   where
     z : (x p : ℕ) → x - m * p - n * p ≡ x - s * p
@@ -38,19 +38,19 @@ seek-none zero r h = refl
 seek-none (suc n) r h = if-ge r.width 4096 (seek n (nearer (supplied r))) r h
 
 -- ---- one pel: what is in sight says that it is the expected one, and nothing is read
-abbrev pub stillTold : Top → View → ℕ → Told
-stillTold c v e = record { expected = true; p = e % 2; view = viewBy (rowOf e) v; pel = stillPel c e }
+abbrev pub still_told : Top → View → ℕ → Told
+still_told c v e = record { expected = true; p = e % 2; view = view_by (row_of e) v; pel = still_pel c e }
 
-pub told-still : (c : Top) (v : View) (code : List ℕ) (e : ℕ) → c.width ≤ c.top → 4096 + rowOf e ≤ c.width
-    → rowOf e * 2 ^ v.look ≤ v.x
-    → v.at ≤ length code → v.look ≤ 7 → v.x < 2 ^ 32 → ReadPel c v code e (stillTold c v e)
+pub told-still : (c : Top) (v : View) (code : List ℕ) (e : ℕ) → c.width ≤ c.top → 4096 + row_of e ≤ c.width
+    → row_of e * 2 ^ v.look ≤ v.x
+    → v.at ≤ length code → v.look ≤ 7 → v.x < 2 ^ 32 → ReadPel c v code e (still_told c v e)
 unfolding decide
 told-still c v code e holds wide t a l s =
     record {
-      asked = sym (ap not (le-ltb v.x (rowOf e * 2 ^ v.look) t));
+      asked = sym (ap not (le-ltb v.x (row_of e * 2 ^ v.look) t));
       told = refl;
       pelled = pelled-still c e holds wide;
-      sight = sym (seek-none 12 (above (rowOf e) (sight_of v c.width code)) (omega arith));
+      sight = sym (seek-none 12 (above (row_of e) (sight_of v c.width code)) (omega arith));
       within = a;
       near = l;
       small = omega arith;

@@ -16,13 +16,13 @@ use Rattle.interval.specs.Interval.{decision, part_of, doubled, grown, doublings
 use Rattle.octets.specs.Octets.{Registers, bits, shifts, due, double, part, pel}
 use Rattle.octets.proofs.Fit.{bits-few, due-width}
 use Rattle.exact.specs.Sight.{Sight, opened, more, nearer, supplied, seek, decide, taken}
-use Rattle.coder.specs.Reading.{pelOf}
-use Rattle.coder.proofs.Reading.{pelOf-bit}
-use Rattle.estimate.specs.Estimate.{rowOf}
+use Rattle.coder.specs.Reading.{pel_of}
+use Rattle.coder.proofs.Reading.{pel_of-bit}
+use Rattle.estimate.specs.Estimate.{row_of}
 use Rattle.estimate.proofs.LawfulEntries.{row_sized}
 use Rattle.octets.specs.Lift.{lift}
 use Rattle.top.specs.declared.Top.{Top}
-use Rattle.top.specs.Top.{bottomOf}
+use Rattle.top.specs.Top.{bottom_of}
 use Rattle.top_row.specs.declared.TopPel.{TopPel}
 use Rattle.top_row.specs.TopRow.{Pelled}
 use Rattle.sight.specs.declared.View.{View}
@@ -173,10 +173,10 @@ view-start a b at at' n p code ea da eb db en ep =
     }
 
 pub told-bit : (c : Top) (v : View) (code : List ℕ) (e : ℕ) (t : Told) → ReadPel c v code e t → t.p ≤ 1
-told-bit c v code e t k = subst (λ (z : ℕ). z ≤ 1) (sym k.told) (pelOf-bit (e % 2) t.expected (omega arith))
+told-bit c v code e t k = subst (λ (z : ℕ). z ≤ 1) (sym k.told) (pel_of-bit (e % 2) t.expected (omega arith))
 
 -- the lower part of what is in sight
-pub part_small : (e l q p : ℕ) → q ≡ rowOf e → p ≡ 2 ^ l → l ≤ 7 → q * p ≤ 352384
+pub part_small : (e l q p : ℕ) → q ≡ row_of e → p ≡ 2 ^ l → l ≤ 7 → q * p ≤ 352384
 part_small e l q p a b h =
     let m : 2 ^ l ≤ 2 ^ 7 = pow_mono h in
     omega (arith, mul-le-mul {n₁ = q} {m₁ = p} {n₂ = 2753} {m₂ = 128} (omega (arith, (row_sized e).small)) (omega arith))
@@ -187,22 +187,22 @@ module _ (c : Top) (v : View) (code : List ℕ) (e : ℕ) (b : Bool) (o : ℕ) (
   seen = sight_of v c.width code
 
   abbrev part' : Sight
-  part' = taken (rowOf e) b seen
+  part' = taken (row_of e) b seen
 
-  pub told_moved : decide (rowOf e) seen ≡ b → o ≡ pelOf (e % 2) b → Pelled c e b u
+  pub told_moved : decide (row_of e) seen ≡ b → o ≡ pel_of (e % 2) b → Pelled c e b u
       → part' ≡ sight_of v₁ part'.width code
-      → k ≡ doublings 12 (part_of (decision (rowOf e) b) (bottomOf c).interval).width
+      → k ≡ doublings 12 (part_of (decision (row_of e) b) (bottom_of c).interval).width
       → ((w : ℕ) → sight_of v₂ (w * 2 ^ k) code ≡ seeks k (sight_of v₁ w code)) → v₂.at ≤ length code → v₂.look ≤ 7
       → v₂.x < 2 ^ 32
       → ReadPel c v code e (record { expected = b; p = o; view = v₂; pel = u })
   told_moved d f p t n a x y z =
       let m : doublings 12 part'.width ≡ k
-      = ap (doublings 12) (taken-width (rowOf e) b seen (bottomOf c).interval refl)
+      = ap (doublings 12) (taken-width (row_of e) b seen (bottom_of c).interval refl)
       ∙ sym n in
       let s : seek 12 part' ≡ sight_of v₂ (part'.width * 2 ^ k) code
       = seek-seeks 12 part' ∙ ap (λ (j : ℕ). seeks j part') m ∙ ap (seeks k) t ∙ sym (a part'.width) in
       let w : part'.width * 2 ^ k ≡ u.coder.width
-      = ap (λ (r : Sight). r.width) (sym s) ∙ same_width (rowOf e) b seen (lift (bottomOf c) []) refl
+      = ap (λ (r : Sight). r.width) (sym s) ∙ same_width (row_of e) b seen (lift (bottom_of c) []) refl
       ∙ ap (λ (r : Registers). r.interval.width) p.puts.0 in
       record {
         asked = sym d;

@@ -3,5 +3,5 @@ use Rattle.std.specs.Prelude.{ℕ, ◌-◌, ◌*◌, ◌^◌}
 use Rattle.sight.specs.declared.View.{View}
 
 -- ---- what is in sight after expected pels with no shift, whose sizes add up to n
-abbrev pub viewBy : ℕ → View → View
-viewBy n v = record { x = v.x - n * 2 ^ v.look; look = v.look; last = v.last; at = v.at }
+abbrev pub view_by : ℕ → View → View
+view_by n v = record { x = v.x - n * 2 ^ v.look; look = v.look; last = v.last; at = v.at }

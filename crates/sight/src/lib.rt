@@ -1,16 +1,16 @@
 // What is in sight of a code: the reader is the writer, told each pel by it.
 ghost use Rattle.std.specs.Prelude.{◌≡◌, false, [], ℕ, ◌+◌, ◌-◌, ◌*◌, ◌%◌, ◌≤◌, ◌<◌, ◌^◌, length, take, drop, get_or};
-ghost use Rattle.limits.specs.Limits.{maxShifts};
+ghost use Rattle.limits.specs.Limits.{max_shifts};
 ghost use Rattle.estimate.specs.Estimate.{LawfulEntry};
 ghost use Rattle.octets.specs.Octets.{bits};
-ghost use Rattle.coder.specs.Reading.{pelOf};
+ghost use Rattle.coder.specs.Reading.{pel_of};
 ghost use Rattle.octets.specs.Fit.{Ready};
 ghost use Rattle.octets.specs.Lift.{lift};
-ghost use Rattle.top.specs.Top.{bottomOf};
+ghost use Rattle.top.specs.Top.{bottom_of};
 ghost use Rattle.exact.specs.Sight.{opened};
 ghost use Rattle.exact.specs.Sight as law;
 ghost use Rattle.sight.specs.Views.{sight_of, seeks, ReadPel};
-ghost use Rattle.sight.specs.Still.{viewBy};
+ghost use Rattle.sight.specs.Still.{view_by};
 
 use top::Top;
 use top_row::TopPel;
@@ -110,7 +110,7 @@ impl View {
     // After expected pels with no shift, whose sizes add up to n.
     pub fn still(self, n: u64) -> Self
         requires { (self.look ≤ 7) × (n * 2 ^ self.look ≤ self.x) × (self.x < 2 ^ 32) }
-        ensures { result ≡ viewBy n self }
+        ensures { result ≡ view_by n self }
     {
         let part = n * octets::power(self.look);
         View {
@@ -154,7 +154,7 @@ impl View {
 
 // The pel that is the expected one, or the other.
 fn pel_told(e: u8, expected: bool) -> u8
-    ensures { (result ≡ pelOf (e % 2) expected) × (result ≤ 1) }
+    ensures { (result ≡ pel_of (e % 2) expected) × (result ≤ 1) }
 {
     if expected {
         return e % 2;
@@ -164,8 +164,8 @@ fn pel_told(e: u8, expected: bool) -> u8
 
 // One pel: the code tells it, and the writer codes it.
 pub fn read_pel(coder: Top, view: View, code: &[u8], e: u8) -> Told
-    requires { Ready (lift (bottomOf coder) []) × (coder.width ≤ coder.top) × LawfulEntry e
-        × (coder.count < maxShifts) × (view.at ≤ length code.now) × (view.look ≤ 7) × (view.x < 2 ^ 32) }
+    requires { Ready (lift (bottom_of coder) []) × (coder.width ≤ coder.top) × LawfulEntry e
+        × (coder.count < max_shifts) × (view.at ≤ length code.now) × (view.look ≤ 7) × (view.x < 2 ^ 32) }
     ensures { ReadPel coder view code.now e result }
 {
     let q = estimate::row_of(e);

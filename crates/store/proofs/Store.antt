@@ -6,15 +6,15 @@ use native.Mathlib.Omega.{arith}
 use mathlib.Core.List.{List, [], ◌∷◌, ◌++◌}
 use lib.ListN.{length, get_or, take, drop, set, length-set}
 use lib.Seq.{length-take-le, take-suc, sets, sets-eq}
-use Rattle.store.specs.Store.{storeAt, stores, inFront}
+use Rattle.store.specs.Store.{store_at, stores, in_front}
 
-pub store-none : (out : List ℕ) (at b : ℕ) → at ≡ 0 → out ≡ storeAt out at b
-unfolding storeAt
+pub store-none : (out : List ℕ) (at b : ℕ) → at ≡ 0 → out ≡ store_at out at b
+unfolding store_at
 store-none out zero b e = refl
 store-none out (suc n) b e = absurd (omega arith)
 
-pub store-some : (out : List ℕ) (at b : ℕ) → (at ≡ 0 → ⊥) → set out (at - 1) b ≡ storeAt out at b
-unfolding storeAt
+pub store-some : (out : List ℕ) (at b : ℕ) → (at ≡ 0 → ⊥) → set out (at - 1) b ≡ store_at out at b
+unfolding store_at
 store-some out zero b e = absurd (e refl)
 store-some out (suc n) b e = ap (λ (k : ℕ). set out k b) (omega arith)
 
@@ -22,36 +22,36 @@ pub stores-append : (out : List ℕ) (at : ℕ) (xs ys : List ℕ) → stores (s
     out at (xs ++ ys)
 unfolding stores
 stores-append out at [] ys = ap (λ (k : ℕ). stores out k ys) (add-zero at)
-stores-append out at (x ∷ xs) ys = ap (λ (k : ℕ). stores (stores (storeAt out at x) (suc at) xs) k ys)
-    (add-suc at (length xs) ∙ sym (suc-add at (length xs))) ∙ stores-append (storeAt out at x) (suc at) xs ys
+stores-append out at (x ∷ xs) ys = ap (λ (k : ℕ). stores (stores (store_at out at x) (suc at) xs) k ys)
+    (add-suc at (length xs) ∙ sym (suc-add at (length xs))) ∙ stores-append (store_at out at x) (suc at) xs ys
 
 -- one byte more of a list that is stored from its front
 pub stores-next : (out₀ xs out : List ℕ) (at next i : ℕ) → i < length xs → out ≡ stores out₀ at (take i xs)
-    → next ≡ at + i → storeAt out next (get_or xs i 0) ≡ stores out₀ at (take (suc i) xs)
+    → next ≡ at + i → store_at out next (get_or xs i 0) ≡ stores out₀ at (take (suc i) xs)
 unfolding stores
 stores-next out₀ xs out at next i h e f =
     let l : length (take i xs) ≡ i = length-take-le i xs (omega arith) in
-    ap₂ (λ (o : List ℕ) (n : ℕ). storeAt o n (get_or xs i 0)) e (f ∙ ap (λ (k : ℕ). at + k) (sym l)) ∙ stores-append out₀
+    ap₂ (λ (o : List ℕ) (n : ℕ). store_at o n (get_or xs i 0)) e (f ∙ ap (λ (k : ℕ). at + k) (sym l)) ∙ stores-append out₀
     at (take i xs) (get_or xs i 0 ∷ [])
     ∙ ap (stores out₀ at) (sym (take-suc xs i 0 h))
 
 pub length-stores : (out : List ℕ) (at : ℕ) (xs : List ℕ) → length (stores out at xs) ≡ length out
-unfolding stores storeAt
+unfolding stores store_at
 length-stores out at [] = refl
 length-stores out zero (x ∷ xs) = length-stores out 1 xs
 length-stores out (suc n) (x ∷ xs) = length-stores (set out n x) (suc (suc n)) xs ∙ length-set out n x
 
 stores-sets : (out : List ℕ) (n : ℕ) (xs : List ℕ) → stores out (suc n) xs ≡ sets out n xs
-unfolding stores storeAt
+unfolding stores store_at
 stores-sets out n [] = refl
 stores-sets out n (x ∷ xs) = stores-sets (set out n x) (suc n) xs
 
 stores-drop : (out xs : List ℕ) → stores out 0 xs ≡ sets out 0 (drop 1 xs)
-unfolding stores storeAt
+unfolding stores store_at
 stores-drop out [] = refl
 stores-drop out (x ∷ xs) = stores-sets out 0 xs
 
 -- where all but the first fit, they stand in front, and the rest is kept
-pub stores-fit : (out xs : List ℕ) → length (drop 1 xs) ≤ length out → stores out 0 xs ≡ inFront (drop 1 xs) out
-unfolding inFront
+pub stores-fit : (out xs : List ℕ) → length (drop 1 xs) ≤ length out → stores out 0 xs ≡ in_front (drop 1 xs) out
+unfolding in_front
 stores-fit out xs h = stores-drop out xs ∙ sets-eq (drop 1 xs) out 0 (rw zero-add h) ∙ rw zero-add

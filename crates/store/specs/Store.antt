@@ -2,8 +2,8 @@
 use Rattle.std.specs.Prelude.{ℕ, zero, suc, ◌+◌, ◌-◌, cond, List, [], ◌∷◌, ◌++◌, leb, length, take, drop, set, replicate}
 
 -- a result in the front part of a buffer, the rest kept
-unfoldable pub inFront : List ℕ → List ℕ → List ℕ
-inFront xs out = xs ++ drop (length xs) out
+unfoldable pub in_front : List ℕ → List ℕ → List ℕ
+in_front xs out = xs ++ drop (length xs) out
 
 -- all of a buffer zero
 unfoldable pub cleared : List ℕ → List ℕ
@@ -14,10 +14,10 @@ unfoldable pub front : ℕ → List ℕ → List ℕ
 front n out = cond (leb n (length out)) (take n out) []
 
 -- ---- bytes stored one after the other, the first of all left out; past the end a store does nothing
-unfoldable pub storeAt : List ℕ → ℕ → ℕ → List ℕ
-storeAt out zero b = out
-storeAt out (suc n) b = set out n b
+unfoldable pub store_at : List ℕ → ℕ → ℕ → List ℕ
+store_at out zero b = out
+store_at out (suc n) b = set out n b
 
 unfoldable pub stores : List ℕ → ℕ → List ℕ → List ℕ
 stores out at [] = out
-stores out at (b ∷ bs) = stores (storeAt out at b) (suc at) bs
+stores out at (b ∷ bs) = stores (store_at out at b) (suc at) bs

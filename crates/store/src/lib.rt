@@ -1,8 +1,8 @@
 // Lent buffers: bytes stored at a moving place, a buffer cleared, and the front part handed back.
 ghost use Rattle.std.specs.Prelude.{◌≡◌, [], ◌∷◌, ◌+◌, ◌≤◌, ◌<◌, length, take};
 ghost use Rattle.std.proofs.Math.Seq.{paste};
-ghost use Rattle.limits.specs.Limits.{farthest, lastBytes};
-ghost use Rattle.store.specs.Store.{cleared, front, storeAt, stores};
+ghost use Rattle.limits.specs.Limits.{farthest, last_bytes};
+ghost use Rattle.store.specs.Store.{cleared, front, store_at, stores};
 
 use limits::ROW;
 
@@ -20,7 +20,7 @@ pub fn clear(out: &mut [u8])
 // The byte after the first `at`, where there is room for it; the very first, which is no part of the code, is left out.
 pub fn put(out: &mut [u8], at: usize, b: u8) -> usize
     requires { at < farthest }
-    ensures { (result ≡ at + 1) × (out.new ≡ storeAt out.old at b) }
+    ensures { (result ≡ at + 1) × (out.new ≡ store_at out.old at b) }
 {
     if at == 0 {
         return 1;
@@ -63,7 +63,7 @@ pub fn put_last(out: &mut [u8], at: usize, bytes: [u8; 6], n: usize) -> usize
 
 // The first n bytes of a row, at a place of the buffer.
 pub fn put_row(out: &mut [u8], from: usize, row: [u8; ROW], n: usize)
-    requires { (n ≤ lastBytes) × (from + n ≤ length out.old) }
+    requires { (n ≤ last_bytes) × (from + n ≤ length out.old) }
     ensures { out.new ≡ paste out.old from row n }
 {
     let mut i: usize = 0;

@@ -1,7 +1,7 @@
 // The calls on a class's learned table. The book goes by value; the arrays are lent in place.
 ghost use Rattle.std.specs.Prelude.{◌≡◌, [], ◌≤◌, length};
 ghost use Rattle.limits.specs.Limits.{contexts};
-ghost use Rattle.store.specs.Store.{inFront};
+ghost use Rattle.store.specs.Store.{in_front};
 ghost use Rattle.parts.specs.Parts.{parts_of, Sized};
 ghost use Rattle.desk.specs.Calls.{drops, looks};
 ghost use Rattle.parts.specs.Replies.{Serves};
@@ -44,7 +44,7 @@ pub fn forget<'a>(
 // A table's bytes in the front of a buffer, the rest kept.
 fn show_table(table: [u8; CONTEXTS], out: &mut [u8])
     requires { contexts ≤ length out.old }
-    ensures { out.new ≡ inFront table out.old }
+    ensures { out.new ≡ in_front table out.old }
 {
     let mut i: usize = 0;
     while i < CONTEXTS {

@@ -12,9 +12,9 @@ use lib.ListN.{get_or, set, replicate, length-set, get_or-replicate, get_or-eq_d
 use lib.Seq.{get_or-set_same, get_or-set_other}
 use lib.Arith.{digits_div, digits_mod}
 use lib.Pow.{pow-add, pow_pos}
-use Rattle.limits.specs.Limits.{maxWidth, lastBytes}
+use Rattle.limits.specs.Limits.{max_width, last_bytes}
 use Rattle.ground.proofs.Tests.{same?}
-use Rattle.template.specs.Pels.{pelAt, pelsTo}
+use Rattle.template.specs.Pels.{pel_at, pels_to}
 use Rattle.template.specs.Packing.{Row}
 
 -- ---- one byte: b has zeros from bit r on; the pel p is put there. q is that bit's weight
@@ -57,17 +57,17 @@ module _ (b p q k : ℕ) (some : 1 ≤ q) (whole : 2 * q * k ≡ 256) (top : b �
   pub filled : Filled
   filled = record { high = same-high; here = this-bit; low = rest-clear; octet = still-byte }
 
-zero-at : (i : ℕ) → get_or (replicate lastBytes 0) i 0 ≡ zero
-zero-at i = go (dec_lt i lastBytes)
+zero-at : (i : ℕ) → get_or (replicate last_bytes 0) i 0 ≡ zero
+zero-at i = go (dec_lt i last_bytes)
   where
-    go : Dec (i < lastBytes) → get_or (replicate lastBytes 0) i 0 ≡ zero
-    go (yes h) = get_or-replicate {A = ℕ} lastBytes i 0 0 h
-    go (no h) = get_or-eq_default {A = ℕ} (replicate lastBytes 0) 0 {n = i} (omega arith)
+    go : Dec (i < last_bytes) → get_or (replicate last_bytes 0) i 0 ≡ zero
+    go (yes h) = get_or-replicate {A = ℕ} last_bytes i 0 0 h
+    go (no h) = get_or-eq_default {A = ℕ} (replicate last_bytes 0) 0 {n = i} (omega arith)
 
-pub row-none : Row (replicate lastBytes 0) 0
+pub row-none : Row (replicate last_bytes 0) 0
 row-none =
     record {
-      size = length-replicate {A = ℕ} lastBytes 0;
+      size = length-replicate {A = ℕ} last_bytes 0;
       octets = λ i. omega (arith, zero-at i);
       clear = refl;
       zeros =
@@ -88,7 +88,7 @@ double-weight r h = ap (λ (x : ℕ). 2 ^ x) (one r h) ∙ pow-succ' 2 (7 - r)
     one : (r : ℕ) → r ≤ 7 → 8 - r ≡ suc (7 - r)
     one r h = omega arith
 
-module _ (row : List ℕ) (x p : ℕ) (w : Row row x) (fits : x < maxWidth) (bit : p ≤ 1) where
+module _ (row : List ℕ) (x p : ℕ) (w : Row row x) (fits : x < max_width) (bit : p ≤ 1) where
   abbrev i : ℕ
   i = x / 8
 
@@ -133,8 +133,8 @@ module _ (row : List ℕ) (x p : ℕ) (w : Row row x) (fits : x < maxWidth) (bit
       ∙ ap (λ (y : ℕ). b / y) (sym (higher j h))
 
   -- the pels before it stay, and it is the next
-  pel-before : (y : ℕ) → y < x → pelAt next y ≡ pelAt row y
-  unfolding pelAt
+  pel-before : (y : ℕ) → y < x → pel_at next y ≡ pel_at row y
+  unfolding pel_at
   pel-before y h = go (same? (y / 8) i)
     where
       go : (y / 8 ≡ i) ⊎ (y / 8 ≢ i) → get_or next (y / 8) 0 / 2 ^ (7 - y % 8) % 2 ≡ get_or row (y / 8) 0 / 2 ^
@@ -145,17 +145,17 @@ module _ (row : List ℕ) (x p : ℕ) (w : Row row x) (fits : x < maxWidth) (bit
           % 2) (sym e)
       go (inr n) = ap (λ (z : ℕ). z / 2 ^ (7 - y % 8) % 2) (at_other (y / 8) n)
 
-  pel-here : pelAt next x ≡ p
-  unfolding pelAt
+  pel-here : pel_at next x ≡ p
+  unfolding pel_at
   pel-here = ap (λ (z : ℕ). z / q % 2) at_i ∙ byte.here
 
-  pels-before : (n : ℕ) → n ≤ x → pelsTo next n ≡ pelsTo row n
-  unfolding pelsTo
+  pels-before : (n : ℕ) → n ≤ x → pels_to next n ≡ pels_to row n
+  unfolding pels_to
   pels-before zero h = refl
   pels-before (suc n) h = ap₂ (λ (l : List ℕ) (y : ℕ). l ++ (y ∷ [])) (pels-before n (omega arith)) (pel-before n h)
 
-  pub pels-next : pelsTo next (suc x) ≡ pelsTo row x ++ (p ∷ [])
-  unfolding pelsTo
+  pub pels-next : pels_to next (suc x) ≡ pels_to row x ++ (p ∷ [])
+  unfolding pels_to
   pels-next = ap₂ (λ (l : List ℕ) (y : ℕ). l ++ (y ∷ [])) (pels-before x (omega arith)) pel-here
 
   octet-next : (j : ℕ) → get_or next j 0 ≤ 255

@@ -9,29 +9,29 @@ use lib.Dec.{eqb}
 use lib.ListN.{length, get_or, take, drop, length-take, length-drop}
 use mathlib.Core.Bool.{true, false, ◌&&◌}
 use mathlib.Core.List.{List}
-use Rattle.limits.specs.Limits.{maxWidth, maxRows, maxBand}
+use Rattle.limits.specs.Limits.{max_width, max_rows, max_band}
 use Rattle.ground.proofs.Bools.{and-true, and-false}
 use Rattle.ground.proofs.Tests.{same?}
 use mathlib.Core.Logic.{◌⊎◌, inl, inr, ◌≢◌}
-use Rattle.template.specs.Pels.{rowBytes, row_at, rowPadded, bandPadded}
+use Rattle.template.specs.Pels.{row_bytes, row_at, row_padded, band_padded}
 
 -- one row more
-pub padded-next : (width : ℕ) (band : List ℕ) (y : ℕ) → true ≡ bandPadded width band y
-    → rowPadded width (row_at width band y) ≡ true → true ≡ bandPadded width band (y + 1)
-unfolding bandPadded
+pub padded-next : (width : ℕ) (band : List ℕ) (y : ℕ) → true ≡ band_padded width band y
+    → row_padded width (row_at width band y) ≡ true → true ≡ band_padded width band (y + 1)
+unfolding band_padded
 padded-next width band y p q =
-    rw add-one (sym (and-true (bandPadded width band y) (rowPadded width (row_at width band y)) (sym p) q))
+    rw add-one (sym (and-true (band_padded width band y) (row_padded width (row_at width band y)) (sym p) q))
 
 -- a row of the band has a stray bit
-pub padded-not : (width : ℕ) (band : List ℕ) (y n : ℕ) → y < n → rowPadded width (row_at width band y) ≡ false
-    → bandPadded width band n ≡ false
-unfolding bandPadded
+pub padded-not : (width : ℕ) (band : List ℕ) (y n : ℕ) → y < n → row_padded width (row_at width band y) ≡ false
+    → band_padded width band n ≡ false
+unfolding band_padded
 padded-not width band y zero h q = absurd (omega arith)
 padded-not width band y (suc n) h q = go (same? y n) (λ l. padded-not width band y n l q)
   where
-    go : (y ≡ n) ⊎ (y ≢ n) → (y < n → bandPadded width band n ≡ false)
-        → (bandPadded width band n && rowPadded width (row_at width band n)) ≡ false
-    go (inl e) f = rw (← e, q) (and-false (bandPadded width band y))
+    go : (y ≡ n) ⊎ (y ≢ n) → (y < n → band_padded width band n ≡ false)
+        → (band_padded width band n && row_padded width (row_at width band n)) ≡ false
+    go (inl e) f = rw (← e, q) (and-false (band_padded width band y))
     go (inr e) f = rw (f (omega arith))
 
 -- ---- the remainder that a row's last byte leaves
@@ -39,22 +39,22 @@ pub shift_small : (n : ℕ) → n ≤ 7 → (1 * 2 ^ n % 18446744073709551616 �
 shift_small n h = let p : 2 ^ n ≤ 2 ^ 7 = pow_mono {i = n} {j = 7} h in let q : 0 < 2 ^ n = pow_pos n in
     (omega arith, q)
 
-pub padded-by : (row : List ℕ) (width bytes : ℕ) → bytes ≡ rowBytes width → 1 ≤ width
-    → eqb (get_or row (bytes - 1) 0 % (1 * 2 ^ (8 * bytes - width) % 18446744073709551616)) 0 ≡ rowPadded width row
-unfolding rowPadded
+pub padded-by : (row : List ℕ) (width bytes : ℕ) → bytes ≡ row_bytes width → 1 ≤ width
+    → eqb (get_or row (bytes - 1) 0 % (1 * 2 ^ (8 * bytes - width) % 18446744073709551616)) 0 ≡ row_padded width row
+unfolding row_padded
 padded-by row width bytes e h = rw ((shift_small (8 * bytes - width) (omega arith)).0, e)
 
 -- ---- a row is within its band
-pub row_within : (width bytes rows y len : ℕ) → bytes ≡ rowBytes width → width ≤ maxWidth → rows ≤ maxRows
-    → len ≡ rows * rowBytes width → y < rows
-    → (y * bytes + bytes ≤ len) × (y * bytes + bytes ≤ maxBand)
+pub row_within : (width bytes rows y len : ℕ) → bytes ≡ row_bytes width → width ≤ max_width → rows ≤ max_rows
+    → len ≡ rows * row_bytes width → y < rows
+    → (y * bytes + bytes ≤ len) × (y * bytes + bytes ≤ max_band)
 row_within width bytes rows y len e w r l h =
     let p : len ≡ rows * bytes = l ∙ ap (λ (n : ℕ). rows * n) (sym e) in
     let q : suc y * bytes ≤ rows * bytes = mul-le-mul_right bytes h in
-    let s : suc y * bytes ≤ maxRows * bytes = mul-le-mul_right bytes (omega arith) in
+    let s : suc y * bytes ≤ max_rows * bytes = mul-le-mul_right bytes (omega arith) in
     (omega (arith, suc-mul y bytes), omega (arith, suc-mul y bytes))
 
-pub row_is : (width : ℕ) (band : List ℕ) (bytes y : ℕ) → bytes ≡ rowBytes width → take (y * bytes + bytes - y * bytes)
+pub row_is : (width : ℕ) (band : List ℕ) (bytes y : ℕ) → bytes ≡ row_bytes width → take (y * bytes + bytes - y * bytes)
     (drop (y * bytes) band) ≡ row_at width band y
 row_is width band bytes y e =
     let f : y * bytes + bytes - y * bytes ≡ bytes = omega arith in

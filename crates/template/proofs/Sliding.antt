@@ -10,46 +10,46 @@ use lib.Dec.{T, ltb, nltb→le}
 use native.Mathlib.Decide.{dec_lt}
 use Rattle.ground.proofs.Tests.{by_cond, if-ge}
 use Rattle.template.specs.declared.Window.{Window}
-use Rattle.template.specs.Pels.{pelAt, pelsTo, left_of, rightOf, context}
+use Rattle.template.specs.Pels.{pel_at, pels_to, left_of, right_of, context}
 use Rattle.template.specs.Window.{Slid, parted}
 
 -- ---- the pels of a packed row, one by one
 -- Pels are 0 (white) or 1 (black).
-pub pel-bit : (row : List ℕ) (x : ℕ) → pelAt row x ≤ 1
-unfolding pelAt
+pub pel-bit : (row : List ℕ) (x : ℕ) → pel_at row x ≤ 1
+unfolding pel_at
 pel-bit row x = omega arith
 
-pub length-pels : (row : List ℕ) (n : ℕ) → length (pelsTo row n) ≡ n
-unfolding pelsTo
+pub length-pels : (row : List ℕ) (n : ℕ) → length (pels_to row n) ≡ n
+unfolding pels_to
 length-pels row zero = refl
-length-pels row (suc n) = length-append (pelsTo row n) (pelAt row n ∷ []) ∙ omega (arith, length-pels row n)
+length-pels row (suc n) = length-append (pels_to row n) (pel_at row n ∷ []) ∙ omega (arith, length-pels row n)
 
-pub pels-at : (row : List ℕ) (n x : ℕ) → x < n → get_or (pelsTo row n) x 0 ≡ pelAt row x
-unfolding pelsTo
+pub pels-at : (row : List ℕ) (n x : ℕ) → x < n → get_or (pels_to row n) x 0 ≡ pel_at row x
+unfolding pels_to
 pels-at row zero x h = absurd (omega arith)
 pels-at row (suc n) x h = go (dec_lt x n) (λ l. pels-at row n x l)
   where
-    last : x ≡ n → get_or (pelsTo row n ++ (pelAt row n ∷ [])) x 0 ≡ pelAt row x
+    last : x ≡ n → get_or (pels_to row n ++ (pel_at row n ∷ [])) x 0 ≡ pel_at row x
     last e =
-        ap (λ (k : ℕ). get_or (pelsTo row n ++ (pelAt row n ∷ [])) k 0) (e ∙ sym (length-pels row n)) ∙ get_or-append_seam
-        (pelsTo row n) (pelAt row n) [] 0 ∙ ap (pelAt row) (sym e)
+        ap (λ (k : ℕ). get_or (pels_to row n ++ (pel_at row n ∷ [])) k 0) (e ∙ sym (length-pels row n)) ∙ get_or-append_seam
+        (pels_to row n) (pel_at row n) [] 0 ∙ ap (pel_at row) (sym e)
 
-    go : Dec (x < n) → (x < n → get_or (pelsTo row n) x 0 ≡ pelAt row x) → get_or (pelsTo row n ++ (pelAt row n ∷ [])) x 0
-        ≡ pelAt row x
-    go (yes l) f = get_or-append (pelsTo row n) (pelAt row n ∷ []) 0 x (omega (arith, length-pels row n)) ∙ f l
+    go : Dec (x < n) → (x < n → get_or (pels_to row n) x 0 ≡ pel_at row x) → get_or (pels_to row n ++ (pel_at row n ∷ [])) x 0
+        ≡ pel_at row x
+    go (yes l) f = get_or-append (pels_to row n) (pel_at row n ∷ []) 0 x (omega (arith, length-pels row n)) ∙ f l
     go (no l) f = last (omega arith)
 
-pub pels-past : (row : List ℕ) (n x : ℕ) → n ≤ x → get_or (pelsTo row n) x 0 ≡ 0
-pels-past row n x h = get_or-eq_default (pelsTo row n) 0 {n = x} (omega (arith, length-pels row n))
+pub pels-past : (row : List ℕ) (n x : ℕ) → n ≤ x → get_or (pels_to row n) x 0 ≡ 0
+pels-past row n x h = get_or-eq_default (pels_to row n) 0 {n = x} (omega (arith, length-pels row n))
 
 -- rows of pels: each is 0 or 1
 abbrev pub Bits : List ℕ → Type 0
 Bits row = (x : ℕ) → get_or row x 0 ≤ 1
 
-pub pels-bits : (row : List ℕ) (n : ℕ) → Bits (pelsTo row n)
+pub pels-bits : (row : List ℕ) (n : ℕ) → Bits (pels_to row n)
 pels-bits row n x = go (dec_lt x n)
   where
-    go : Dec (x < n) → get_or (pelsTo row n) x 0 ≤ 1
+    go : Dec (x < n) → get_or (pels_to row n) x 0 ≤ 1
     go (yes l) = rw (pels-at row n x l) (pel-bit row x)
     go (no l) = rw (pels-past row n x (omega arith)) (omega arith)
 
@@ -87,7 +87,7 @@ slid-context above this x w s = omega (arith, s.five, s.two)
 
 pub slid-small : (above this : List ℕ) (x : ℕ) (w : Window) → Bits above → Bits this → Slid above this x w
     → (w.above < 32) × (w.this < 4)
-unfolding rightOf
+unfolding right_of
 slid-small above this x w a b s = (
   omega (arith, s.five, a (x + 2), a (x + 1), a (x + 0), left-bit above x 1 a, left-bit above x 2 a),
   omega (arith, s.two, left-bit this x 1 b, left-bit this x 2 b),
@@ -95,14 +95,14 @@ slid-small above this x w a b s = (
 
 pub slid-start : (above : List ℕ)
     → Slid above [] 0 (record { above = get_or above 2 0 + 2 * get_or above 1 0 + 4 * get_or above 0 0; this = 0 })
-unfolding rightOf left_of
+unfolding right_of left_of
 slid-start above = record { five = omega arith; two = refl }
 
 slid-next : (above this : List ℕ) (p : ℕ) (w : Window) → Bits above → Bits this → p ≤ 1
     → Slid above this (length this) w
     → Slid above (this ++ (p ∷ [])) (suc (length this))
     (record { above = (2 * w.above + get_or above (length this + 3) 0) % 32; this = (2 * w.this + p) % 4 })
-unfolding rightOf
+unfolding right_of
 slid-next above this p w a b h s =
     let x : ℕ = length this in
     record {

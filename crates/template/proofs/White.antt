@@ -8,12 +8,12 @@ use lib.Bits.{bit_and}
 use lib.Count.{count_leading_zeros}
 use lib.ListN.{get_or}
 use Rattle.template.specs.declared.Window.{Window}
-use Rattle.template.specs.Pels.{pelAt, pelsTo, rightOf}
+use Rattle.template.specs.Pels.{pel_at, pels_to, right_of}
 use Rattle.template.specs.Window.{Slid}
 use Rattle.template.proofs.Sliding.{pels-at, pels-past}
 use Rattle.template.specs.Words.{Word}
 use Rattle.template.proofs.Words.{masked, zeros-more, zeros-white}
-use Rattle.template.specs.White.{White, Under, Clear, whiteWindow}
+use Rattle.template.specs.White.{White, Under, Clear, white_window}
 
 white-none : (row : List ℕ) (x y : ℕ) → y ≤ x → White row x y
 white-none row x y h = record { pels = λ z k l. absurd (omega arith) }
@@ -21,7 +21,7 @@ white-none row x y h = record { pels = λ z k l. absurd (omega arith) }
 pub white-more : (row : List ℕ) (x y z : ℕ) → White row x y → White row y z → White row x z
 white-more row x y z f g = record { pels = λ w h k. go w h k (dec_lt w y) }
   where
-    go : (w : ℕ) → x ≤ w → w < z → Dec (w < y) → pelAt row w ≡ 0
+    go : (w : ℕ) → x ≤ w → w < z → Dec (w < y) → pel_at row w ≡ 0
     go w h k (yes l) = f.pels w h l
     go w h k (no l) = g.pels w (omega arith) k
 
@@ -36,10 +36,10 @@ white-word row k w y f l u =
     let m = zeros-more row k w (y - 8 * k) f (omega arith) in
     rw (masked w (y - 8 * k) (omega arith)) (omega arith, omega arith, record { pels = pel })
   where
-    pel : (z : ℕ) → y ≤ z → z < 8 * k + count_leading_zeros 64 (w % 2 ^ (64 - (y - 8 * k))) → pelAt row z ≡ 0
+    pel : (z : ℕ) → y ≤ z → z < 8 * k + count_leading_zeros 64 (w % 2 ^ (64 - (y - 8 * k))) → pel_at row z ≡ 0
     pel z a b =
         let i : 8 * k + (z - 8 * k) ≡ z = omega arith in
-        ap (pelAt row) (sym i) ∙ zeros-white row k w (y - 8 * k) f (omega arith) (z - 8 * k) (omega arith) (omega arith)
+        ap (pel_at row) (sym i) ∙ zeros-white row k w (y - 8 * k) f (omega arith) (z - 8 * k) (omega arith) (omega arith)
 
 pub under_none : (above : List ℕ) (x y : ℕ) → y ≤ x → Under above x y
 under_none above x y h = record { pels = λ z k l. absurd (omega arith) }
@@ -49,10 +49,10 @@ under-part above x y x' y' h k f = record { pels = λ z a b. f.pels z (omega ari
 
 -- up to two places before the first black pel above, or to the right edge
 pub under-white : (row : List ℕ) (width x y n : ℕ) → White row x y → ((z : ℕ) → z < n → z + 2 < width → z + 2 < y)
-    → Under (pelsTo row width) x n
+    → Under (pels_to row width) x n
 under-white row width x y n f g = record { pels = λ z h k. go z h k (dec_lt (z + 2) width) }
   where
-    go : (z : ℕ) → x ≤ z → z < n → Dec (z + 2 < width) → get_or (pelsTo row width) (z + 2) 0 ≡ 0
+    go : (z : ℕ) → x ≤ z → z < n → Dec (z + 2 < width) → get_or (pels_to row width) (z + 2) 0 ≡ 0
     go z h k (yes l) = pels-at row width (z + 2) l ∙ f.pels (z + 2) (omega arith) (g z k l)
     go z h k (no l) = pels-past row width (z + 2) (omega arith)
 
@@ -69,8 +69,8 @@ clear_later row above width x y z h f =
 
 -- a window that is all white is such a one
 pub slid-white : (above this : List ℕ) (x : ℕ) (w : Window) → Slid above this x w → 4 * w.above + w.this ≡ 0
-    → w ≡ whiteWindow above x
-unfolding rightOf
+    → w ≡ white_window above x
+unfolding right_of
 slid-white above this x w s h =
     let e : get_or above (x + 2) 0 ≡ 0 = omega (arith, s.five) in
     let a : w.above ≡ get_or above (x + 2) 0 = omega arith in

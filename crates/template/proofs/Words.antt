@@ -10,7 +10,7 @@ use lib.Bits.{bit_and, bit_or, and_mask, or_shifted}
 use lib.Count.{count_leading_zeros, leading_length}
 use lib.ListN.{get_or, length, get_or-eq_default}
 use lib.Pow.{pow_pos, pow_mono, pow-add, shl_exact, shr-shr, high, low, field, mod-mod-pow, ones_split, ones_lt}
-use Rattle.template.specs.Pels.{pelAt}
+use Rattle.template.specs.Pels.{pel_at}
 use Rattle.template.specs.Words.{Word}
 
 -- the lowest bit of what remains of some bits
@@ -23,7 +23,7 @@ bit-of n i = ap (λ (j : ℕ). n % 2 ^ j % 2) one ∙ mod-mod-pow n i 1
 -- a byte more
 module _ (row : List ℕ) (k n w b : ℕ) (f : Word row k n w) (is : b ≡ get_or row (k + n) 0) (octet : b ≤ 255) where
   -- the pels before it
-  before : (i : ℕ) → i < 8 * n → (w * 2 ^ 8 + b) / 2 ^ (8 * suc n - 1 - i) % 2 ≡ pelAt row (8 * k + i)
+  before : (i : ℕ) → i < 8 * n → (w * 2 ^ 8 + b) / 2 ^ (8 * suc n - 1 - i) % 2 ≡ pel_at row (8 * k + i)
   before i h =
       let e : 8 * suc n - 1 - i ≡ 8 + (8 * n - 1 - i) = omega arith in
       ap (λ (j : ℕ). (w * 2 ^ 8 + b) / 2 ^ j % 2) e
@@ -40,8 +40,8 @@ module _ (row : List ℕ) (k n w b : ℕ) (f : Word row k n w) (is : b ≡ get_o
       sym (ap (λ (m : ℕ). m / 2 ^ (7 - r) % 2) (sym s) ∙ ap (λ (m : ℕ). m % 2) (field (w * 2 ^ 8 + b) (suc r) (7 - r))
       ∙ bit-of ((w * 2 ^ 8 + b) / 2 ^ (7 - r)) r)
 
-  own : (i : ℕ) → 8 * n ≤ i → i < 8 * suc n → (w * 2 ^ 8 + b) / 2 ^ (8 * suc n - 1 - i) % 2 ≡ pelAt row (8 * k + i)
-  unfolding pelAt
+  own : (i : ℕ) → 8 * n ≤ i → i < 8 * suc n → (w * 2 ^ 8 + b) / 2 ^ (8 * suc n - 1 - i) % 2 ≡ pel_at row (8 * k + i)
+  unfolding pel_at
   own i l h =
       let r : ℕ = i - 8 * n in
       let e : 8 * suc n - 1 - i ≡ 7 - r = omega arith in
@@ -60,7 +60,7 @@ module _ (row : List ℕ) (k n w b : ℕ) (f : Word row k n w) (is : b ≡ get_o
           let p : 2 ^ (8 * suc n) ≡ 2 ^ (8 * n) * 2 ^ 8 = ap (λ (j : ℕ). 2 ^ j) e ∙ pow-add 2 (8 * n) 8 in
           omega (arith, f.small)
 
-      go : (i : ℕ) → i < 8 * suc n → Dec (i < 8 * n) → (w * 2 ^ 8 + b) / 2 ^ (8 * suc n - 1 - i) % 2 ≡ pelAt row
+      go : (i : ℕ) → i < 8 * suc n → Dec (i < 8 * n) → (w * 2 ^ 8 + b) / 2 ^ (8 * suc n - 1 - i) % 2 ≡ pel_at row
           (8 * k + i)
       go i h (yes l) = before i l
       go i h (no l) = own i (omega arith) h
@@ -122,7 +122,7 @@ module _ (row : List ℕ) (k w o : ℕ) (f : Word row k 8 w) (h : o < 64) where
           absurd (omega (arith, below))
 
   -- its leading zeros are white pels
-  pub zeros-white : (i : ℕ) → o ≤ i → i < zeros → pelAt row (8 * k + i) ≡ 0
+  pub zeros-white : (i : ℕ) → o ≤ i → i < zeros → pel_at row (8 * k + i) ≡ 0
   zeros-white i a b = sym (f.pels i (omega (arith, zeros-more.1))) ∙ ap (λ (j : ℕ). w / 2 ^ j % 2) e
       ∙ sym (bit-of (w / 2 ^ (63 - i)) (i - o))
       ∙ ap (λ (m : ℕ). m % 2) none

@@ -2,11 +2,11 @@
 -- nothing.
 use Rattle.std.specs.Prelude.{◌≡◌, ℕ, ◌+◌, ◌-◌, ◌*◌, ◌/◌, ◌%◌, List}
 use Rattle.template.specs.declared.Window.{Window}
-use Rattle.template.specs.Pels.{left_of, rightOf}
+use Rattle.template.specs.Pels.{left_of, right_of}
 
 -- ---- the registers at x: the five pels of the row above, the two of this row
 pub record Slid (above this : List ℕ) (x : ℕ) (w : Window) : Type 0 where
-  pub five : w.above ≡ rightOf above x 2 + 2 * rightOf above x 1 + 4 * rightOf above x 0 + 8 * left_of above x 1 + 16 *
+  pub five : w.above ≡ right_of above x 2 + 2 * right_of above x 1 + 4 * right_of above x 0 + 8 * left_of above x 1 + 16 *
       left_of above x 2
   pub two : w.this ≡ left_of this x 1 + 2 * left_of this x 2
 

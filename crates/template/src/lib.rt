@@ -1,15 +1,15 @@
 // Packed rows, their pels, and the context that slides along a row.
 ghost use Rattle.std.specs.Prelude.{◌≡◌, ◌+◌, ◌*◌, ◌%◌, ◌≤◌, ◌<◌, ◌^◌, [], length, get_or};
-ghost use Rattle.limits.specs.Limits.{maxWidth, maxRows, lastBytes};
-ghost use Rattle.template.specs.Pels.{rowBytes, pelAt, pelsTo, rowPadded, bandPadded};
+ghost use Rattle.limits.specs.Limits.{max_width, max_rows, last_bytes};
+ghost use Rattle.template.specs.Pels.{row_bytes, pel_at, pels_to, row_padded, band_padded};
 ghost use Rattle.template.specs.Window.{Slid, parted};
 ghost use Rattle.template.specs.Words.{Word};
-ghost use Rattle.template.specs.White.{White, Under, Clear, whiteWindow};
+ghost use Rattle.template.specs.White.{White, Under, Clear, white_window};
 
 // The bytes of a row.
 pub fn row_bytes(width: usize) -> usize
     requires { width + 7 < 2 ^ 64 }
-    ensures { result ≡ rowBytes width }
+    ensures { result ≡ row_bytes width }
 {
     (width + 7) / 8
 }
@@ -17,7 +17,7 @@ pub fn row_bytes(width: usize) -> usize
 // The pel at x of a packed row: the leftmost is in the top bit.
 pub fn pel_at(row: &[u8], x: usize) -> u8
     requires { x < 8 * length row.now }
-    ensures { (result ≡ pelAt row.now x) × (result ≤ 1) }
+    ensures { (result ≡ pel_at row.now x) × (result ≤ 1) }
 {
     let b = row[x / 8];
     (b >> (7 - x % 8)) % 2
@@ -26,7 +26,7 @@ pub fn pel_at(row: &[u8], x: usize) -> u8
 // The pel at x of a packed row of that width, and 0 past its right edge.
 pub fn edge_pel(row: &[u8], width: usize, x: usize) -> usize
     requires { width ≤ 8 * length row.now }
-    ensures { (result ≡ get_or (pelsTo row.now width) x 0) × (result ≤ 1) }
+    ensures { (result ≡ get_or (pels_to row.now width) x 0) × (result ≤ 1) }
 {
     if x < width {
         return pel_at(row, x) as usize;
@@ -36,8 +36,8 @@ pub fn edge_pel(row: &[u8], width: usize, x: usize) -> usize
 
 // The padding bits of a row are zero bits.
 pub fn row_padded(row: &[u8], width: usize) -> bool
-    requires { (1 ≤ width) × (width + 7 < 2 ^ 64) × (length row.now ≡ rowBytes width) }
-    ensures { result ≡ rowPadded width row.now }
+    requires { (1 ≤ width) × (width + 7 < 2 ^ 64) × (length row.now ≡ row_bytes width) }
+    ensures { result ≡ row_padded width row.now }
 {
     let bytes = row_bytes(width);
     let spare = 8 * bytes - width;
@@ -47,8 +47,8 @@ pub fn row_padded(row: &[u8], width: usize) -> bool
 
 // And those of every row of a band.
 pub fn band_padded(pels: &[u8], width: usize, rows: usize) -> bool
-    requires { (1 ≤ width) × (width ≤ maxWidth) × (rows ≤ maxRows) × (length pels.now ≡ rows * rowBytes width) }
-    ensures { result ≡ bandPadded width pels.now rows }
+    requires { (1 ≤ width) × (width ≤ max_width) × (rows ≤ max_rows) × (length pels.now ≡ rows * row_bytes width) }
+    ensures { result ≡ band_padded width pels.now rows }
 {
     let bytes = row_bytes(width);
     let mut y: usize = 0;
@@ -88,7 +88,7 @@ fn word_at(row: &[u8], k: usize) -> u64
 
 // The same at the end of a row, where a byte may be missing: it counts as 0.
 fn join_any(row: &[u8], k: usize, n: usize, w: u64) -> u64
-    requires { (k ≤ lastBytes) × (n < 8) × Word row.now k n w }
+    requires { (k ≤ last_bytes) × (n < 8) × Word row.now k n w }
     ensures { Word row.now k (n + 1) result }
 {
     if k + n < row.len() {
@@ -113,7 +113,7 @@ fn short_word(row: &[u8]) -> u64
 
 // Where the white pels from y on end, within the eight bytes from k on, which are w.
 fn white_of(row: &[u8], k: usize, w: u64, y: usize) -> usize
-    requires { Word row.now k 8 w × (k ≤ lastBytes) × (8 * k ≤ y) × (y < 8 * k + 64) }
+    requires { Word row.now k 8 w × (k ≤ last_bytes) × (8 * k ≤ y) × (y < 8 * k + 64) }
     ensures { (y ≤ result) × (result ≤ 8 * k + 64) × White row.now y result }
 {
     let mask = 0xFFFFFFFFFFFFFFFFu64 >> (y - 8 * k);
@@ -123,7 +123,7 @@ fn white_of(row: &[u8], k: usize, w: u64, y: usize) -> usize
 
 // The same, the bytes read here.
 fn white_in(row: &[u8], k: usize, y: usize) -> usize
-    requires { (k + 8 ≤ length row.now) × (k ≤ lastBytes) × (8 * k ≤ y) × (y < 8 * k + 64) }
+    requires { (k + 8 ≤ length row.now) × (k ≤ last_bytes) × (8 * k ≤ y) × (y < 8 * k + 64) }
     ensures { (y ≤ result) × (result ≤ 8 * k + 64) × White row.now y result }
 {
     white_of(row, k, word_at(row, k), y)
@@ -131,7 +131,7 @@ fn white_in(row: &[u8], k: usize, y: usize) -> usize
 
 // Where the white pels from x on end, in a row of so many bytes.
 fn white_to(row: &[u8], bytes: usize, x: usize) -> usize
-    requires { (bytes ≤ length row.now) × (bytes ≤ lastBytes) × (x < 8 * bytes) }
+    requires { (bytes ≤ length row.now) × (bytes ≤ last_bytes) × (x < 8 * bytes) }
     ensures { (x ≤ result) × White row.now x result }
 {
     if bytes < 8 {
@@ -157,8 +157,8 @@ fn white_to(row: &[u8], bytes: usize, x: usize) -> usize
 
 // Where the pels from x on cease to lie under white ones, up to two places to the right.
 pub fn under_to(above: &[u8], width: usize, x: usize) -> usize
-    requires { (width ≤ maxWidth) × (width ≤ 8 * length above.now) × (x < width) }
-    ensures { (x ≤ result) × (result ≤ width) × Under (pelsTo above.now width) x result }
+    requires { (width ≤ max_width) × (width ≤ 8 * length above.now) × (x < width) }
+    ensures { (x ≤ result) × (result ≤ width) × Under (pels_to above.now width) x result }
 {
     let y = white_to(above, row_bytes(width), x);
     if width <= y {
@@ -172,9 +172,9 @@ pub fn under_to(above: &[u8], width: usize, x: usize) -> usize
 
 // Where the white pels under white ones end.
 pub fn run_to(row: &[u8], above: &[u8], width: usize, x: usize) -> usize
-    requires { (width ≤ maxWidth) × (width ≤ 8 * length row.now) × (width ≤ 8 * length above.now)
+    requires { (width ≤ max_width) × (width ≤ 8 * length row.now) × (width ≤ 8 * length above.now)
         × (x < width) }
-    ensures { (x ≤ result) × Clear row.now (pelsTo above.now width) width x result }
+    ensures { (x ≤ result) × Clear row.now (pels_to above.now width) width x result }
 {
     let over = under_to(above, width, x);
     let y = white_to(row, row_bytes(width), x);
@@ -195,7 +195,7 @@ impl Window {
     // At the left edge.
     pub fn start(above: &[u8], width: usize) -> Self
         requires { width ≤ 8 * length above.now }
-        ensures { Slid (pelsTo above.now width) [] 0 result }
+        ensures { Slid (pels_to above.now width) [] 0 result }
     {
         let a = edge_pel(above, width, 2);
         let b = edge_pel(above, width, 1);
@@ -208,8 +208,8 @@ impl Window {
 
     // At x, behind a white run.
     pub fn white(above: &[u8], width: usize, x: usize) -> Self
-        requires { (width ≤ 8 * length above.now) × (x ≤ maxWidth) }
-        ensures { result ≡ whiteWindow (pelsTo above.now width) x }
+        requires { (width ≤ 8 * length above.now) × (x ≤ max_width) }
+        ensures { result ≡ white_window (pels_to above.now width) x }
     {
         let a = edge_pel(above, width, x + 2);
         Window { above: a, this: 0 }
@@ -235,9 +235,9 @@ impl Window {
 
     // At x + 1, after the pel at x.
     pub fn slide(self, above: &[u8], width: usize, x: usize, pel: u8) -> Self
-        requires { (width ≤ 8 * length above.now) × (x < maxWidth) × (pel ≤ 1) × (self.above < 32)
+        requires { (width ≤ 8 * length above.now) × (x < max_width) × (pel ≤ 1) × (self.above < 32)
             × (self.this < 4) }
-        ensures { (result.above ≡ (2 * self.above + get_or (pelsTo above.now width) (x + 3) 0) % 32)
+        ensures { (result.above ≡ (2 * self.above + get_or (pels_to above.now width) (x + 3) 0) % 32)
             × (result.this ≡ (2 * self.this + pel) % 4) }
     {
         let a = edge_pel(above, width, x + 3);

@@ -3,12 +3,12 @@ use mathlib.Core.Path.{◌≡◌}
 use Prim.Native.Nat.{ℕ, ◌+◌, ◌-◌, ◌≤◌}
 use native.Mathlib.Omega.{arith}
 use Rattle.octets.specs.declared.Coder.{Coder}
-use Rattle.octets.specs.Runs.{stillBy}
+use Rattle.octets.specs.Runs.{still_by}
 use Rattle.top.specs.declared.Top.{Top}
-use Rattle.top.specs.Top.{bottomOf, above_of, narrowed}
+use Rattle.top.specs.Top.{bottom_of, above_of, narrowed}
 
 -- ---- up, and down again
-pub above-bottom : (c : Coder) → bottomOf (above_of c) ≡ c
+pub above-bottom : (c : Coder) → bottom_of (above_of c) ≡ c
 above-bottom c = λ i. record {
   interval = record {
     low = low c.interval.low c.interval.width i;
@@ -26,8 +26,8 @@ pub above_holds : (c : Coder) → (above_of c).width ≤ (above_of c).top
 above_holds c = omega arith
 
 -- ---- expected pels with no shift
-pub narrowed-still : (n : ℕ) (t : Top) → n ≤ t.width → t.width ≤ t.top → bottomOf (narrowed n t) ≡ stillBy n
-    (bottomOf t)
+pub narrowed-still : (n : ℕ) (t : Top) → n ≤ t.width → t.width ≤ t.top → bottom_of (narrowed n t) ≡ still_by n
+    (bottom_of t)
 narrowed-still n t h k = λ i. record {
   interval = record { low = low i; width = t.width - n; count = t.count };
   until = t.until;

@@ -5,9 +5,9 @@ use native.Mathlib.Nat.{mul_comm, mul-sub, mul-le-mul_right}
 use native.Mathlib.Omega.{arith}
 use mathlib.Core.Bool.{Bool}
 use mathlib.Core.List.{List, []}
-use Rattle.limits.specs.Limits.{maxShifts}
+use Rattle.limits.specs.Limits.{max_shifts}
 use Rattle.interval.specs.declared.Interval.{Interval}
-use Rattle.interval.specs.Interval.{decision, lowerPart, part_of, grown, doublings, coded}
+use Rattle.interval.specs.Interval.{decision, lower_part, part_of, grown, doublings, coded}
 use Rattle.interval.proofs.Growing.{jumped, Fits, part-fits}
 use Rattle.octets.specs.declared.Coder.{Coder}
 use Rattle.octets.specs.declared.Put.{Put}
@@ -18,13 +18,13 @@ use Rattle.octets.specs.Lift.{lift, settled_of, there}
 use Rattle.octets.proofs.Fit.{ready-pel}
 use Rattle.octets.proofs.OnePel.{low_fits, pel-few, pel-bytes, split, left_over}
 use Rattle.top.specs.declared.Top.{Top}
-use Rattle.top.specs.Top.{bottomOf, within, waited}
+use Rattle.top.specs.Top.{bottom_of, within, waited}
 
 -- ---- the part of an unexpected pel: the top comes down to the end of the lower part
 pub lowered : (q : ℕ) (t : Top) → q ≤ t.width → t.width ≤ t.top
-    → bottomOf
+    → bottom_of
     (record { top = t.top - (t.width - q); width = q; count = t.count; until = t.until; held = t.held })
-    ≡ within (lowerPart q (bottomOf t).interval) t
+    ≡ within (lower_part q (bottom_of t).interval) t
 lowered q t h k = λ i. record {
   interval = record { low = low i; width = q; count = t.count };
   until = t.until;
@@ -36,8 +36,8 @@ lowered q t h k = λ i. record {
 
 -- ---- k doublings of the top and the width are k doublings of the lower end
 pub raised : (k : ℕ) (t : Top) (top width : ℕ) → top ≡ t.top * 2 ^ k → width ≡ t.width * 2 ^ k
-    → bottomOf (record { top = top; width = width; count = t.count + k; until = t.until; held = t.held })
-    ≡ within (jumped k (bottomOf t).interval) t
+    → bottom_of (record { top = top; width = width; count = t.count + k; until = t.until; held = t.held })
+    ≡ within (jumped k (bottom_of t).interval) t
 raised k t top width d e = λ i. record {
   interval = record { low = low i; width = e i; count = t.count + k };
   until = t.until;
@@ -55,13 +55,13 @@ pub raised-holds : (k : ℕ) (t : Top) (top width : ℕ) → top ≡ t.top * 2 ^
 raised-holds k t top width d e h = rw (d, e) (mul-le-mul_right (2 ^ k) h)
 
 -- the part, and then its doublings
-pub next-coded : (t p n : Top) (i : Interval) → bottomOf p ≡ within i t
-    → bottomOf n ≡ within (grown 12 (bottomOf p).interval) p → bottomOf n ≡ within (grown 12 i) t
+pub next-coded : (t p n : Top) (i : Interval) → bottom_of p ≡ within i t
+    → bottom_of n ≡ within (grown 12 (bottom_of p).interval) p → bottom_of n ≡ within (grown 12 i) t
 next-coded t p n i e f =
     f ∙ ap (λ (c : Coder). record { interval = grown 12 c.interval; until = c.until; held = c.held }) e
 
 -- ---- one pel, of a coder whose registers are ready with the string at the bottom
-pub top-fits : (t : Top) → Ready (lift (bottomOf t) []) → t.width ≤ t.top → t.top < 2 ^ 26
+pub top-fits : (t : Top) → Ready (lift (bottom_of t) []) → t.width ≤ t.top → t.top < 2 ^ 26
 top-fits t r h = omega (arith, low_fits _ r.rest.fit, r.rest.fit.narrow)
 
 -- r has the bytes that fall due in m shifts; v has the registers after those shifts, with no byte made
@@ -71,30 +71,30 @@ Settles r v m =
     → v.interval.count ≡ s + (m - v.until)
     → steps (m - v.until) (byte (there [] c a s v.held)) ≡ lift r.coder (settled_of r)
 
-module _ (t : Top) (q : ℕ) (e : Bool) (ready : Ready (lift (bottomOf t) [])) (some : 1 ≤ q) (small : q ≤ 0xAC1) where
+module _ (t : Top) (q : ℕ) (e : Bool) (ready : Ready (lift (bottom_of t) [])) (some : 1 ≤ q) (small : q ≤ 0xAC1) where
   abbrev P : Interval
-  P = part_of (decision q e) (bottomOf t).interval
+  P = part_of (decision q e) (bottom_of t).interval
 
-  pub grow-fits : t.count < maxShifts → (p : Top) → bottomOf p ≡ within P t → Fits (bottomOf p).interval
+  pub grow-fits : t.count < max_shifts → (p : Top) → bottom_of p ≡ within P t → Fits (bottom_of p).interval
   grow-fits h p is =
       subst (λ (c : Coder). Fits c.interval) (sym is)
-      (part-fits q e (bottomOf t).interval ready.wide (omega (arith, ready.rest.fit.narrow)) some small
+      (part-fits q e (bottom_of t).interval ready.wide (omega (arith, ready.rest.fit.narrow)) some small
       (low_fits _ ready.rest.fit) h)
 
   -- the registers after a pel are small enough to move the string up again
-  pub above-fits : (c : Coder) (xs : List ℕ) → pel (decision q e) (lift (bottomOf t) []) ≡ lift c xs
+  pub above-fits : (c : Coder) (xs : List ℕ) → pel (decision q e) (lift (bottom_of t) []) ≡ lift c xs
       → (c.interval.low < 2 ^ 25) × (c.interval.width < 8192)
   above-fits c xs is =
-      let r : Ready (lift c xs) = subst Ready is (ready-pel (decision q e) (lift (bottomOf t) []) ready
+      let r : Ready (lift c xs) = subst Ready is (ready-pel (decision q e) (lift (bottom_of t) []) ready
       (record { some = some; small = small })) in
       (low_fits _ r.rest.fit, omega (arith, r.rest.fit.narrow))
 
   -- n has the registers after the pel's k shifts, with no byte made
-  module _ (n : Top) (k : ℕ) (next : bottomOf n ≡ within (coded (decision q e) (bottomOf t).interval) t)
+  module _ (n : Top) (k : ℕ) (next : bottom_of n ≡ within (coded (decision q e) (bottom_of t).interval) t)
       (many : k ≡ doublings 12 P.width) where
-    pub top-few : k < n.until → pel (decision q e) (lift (bottomOf t) []) ≡ lift (bottomOf (waited k n)) []
+    pub top-few : k < n.until → pel (decision q e) (lift (bottom_of t) []) ≡ lift (bottom_of (waited k n)) []
     top-few h =
-        pel-few (bottomOf t) q e ready some small (subst₂ (λ (c : Coder) (m : ℕ). m < c.until) next many h)
+        pel-few (bottom_of t) q e ready some small (subst₂ (λ (c : Coder) (m : ℕ). m < c.until) next many h)
         ∙ sym
         (ap₂ (λ (c : Coder) (m : ℕ). lift
         (record { interval = c.interval; until = c.until - m; held = c.held }) []) next many)
@@ -110,13 +110,13 @@ module _ (t : Top) (q : ℕ) (e : Bool) (ready : Ready (lift (bottomOf t) [])) (
         × (c.interval.low < 33554432 * 2 ^ (m - c.until)))
         (sym next) (sym many) (
           ready.rest.fit.octet,
-          left_over (bottomOf t) q e ready some small (due h),
-          (split (bottomOf t) q e ready some small (due h)).short,
+          left_over (bottom_of t) q e ready some small (due h),
+          (split (bottom_of t) q e ready some small (due h)).short,
         )
 
-    pub top-bytes : (r : Put) → n.until ≤ k → Settles r (bottomOf n) k → pel (decision q e) (lift (bottomOf t) [])
+    pub top-bytes : (r : Put) → n.until ≤ k → Settles r (bottom_of n) k → pel (decision q e) (lift (bottom_of t) [])
         ≡ lift r.coder (settled_of r)
     top-bytes r h f =
-        let s = split (bottomOf t) q e ready some small (due h) in
-        pel-bytes (bottomOf t) q e ready some small (due h)
+        let s = split (bottom_of t) q e ready some small (due h) in
+        pel-bytes (bottom_of t) q e ready some small (due h)
         ∙ subst₂ (Settles r) next many f _ _ _ s.low s.width s.count

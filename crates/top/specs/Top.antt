@@ -6,8 +6,8 @@ use Rattle.top.specs.declared.Top.{Top}
 use Rattle.top.specs.declared.TopPut.{TopPut}
 
 -- the string moved to the bottom: the lower end is the top less the width
-abbrev pub bottomOf : Top → Coder
-bottomOf t = record {
+abbrev pub bottom_of : Top → Coder
+bottom_of t = record {
   interval = record { low = t.top - t.width; width = t.width; count = t.count };
   until = t.until;
   held = t.held;
@@ -36,5 +36,5 @@ abbrev pub waited : ℕ → Top → Top
 waited k t = record { top = t.top; width = t.width; count = t.count; until = t.until - k; held = t.held }
 
 -- the bytes that a pel settles
-abbrev pub topSettled : TopPut → List ℕ
-topSettled p = take p.settled (p.first ∷ p.second ∷ [])
+abbrev pub top_settled : TopPut → List ℕ
+top_settled p = take p.settled (p.first ∷ p.second ∷ [])

@@ -1,12 +1,12 @@
 // The byte rules with the code string at the top of the interval, as software has it: an expected pel with no shift
 // changes the width alone.
 ghost use Rattle.std.specs.Prelude.{◌≡◌, [], ◌≤◌, ◌<◌, ◌^◌};
-ghost use Rattle.limits.specs.Limits.{maxShifts};
+ghost use Rattle.limits.specs.Limits.{max_shifts};
 ghost use Rattle.interval.specs.Interval.{decision, part_of, grown, doublings};
 ghost use Rattle.octets.specs.Octets.{pel};
 ghost use Rattle.octets.specs.Fit.{Ready};
 ghost use Rattle.octets.specs.Lift.{lift};
-ghost use Rattle.top.specs.Top.{bottomOf, above_of, narrowed, within, waited, topSettled};
+ghost use Rattle.top.specs.Top.{bottom_of, above_of, narrowed, within, waited, top_settled};
 
 use interval::Interval;
 use octets::Coder;
@@ -58,7 +58,7 @@ impl Top {
     // The string moved to the bottom.
     pub fn bottom(self) -> Coder
         requires { self.width ≤ self.top }
-        ensures { result ≡ bottomOf self }
+        ensures { result ≡ bottom_of self }
     {
         let interval = Interval {
             low: self.top - self.width,
@@ -89,7 +89,7 @@ impl Top {
     // The pel's part: the expected pel keeps the top, the unexpected pel brings it down to the end of the lower part.
     fn part(self, q: u64, expected: bool) -> Self
         requires { (q ≤ self.width) × (self.width ≤ self.top) }
-        ensures { (bottomOf result ≡ within (part_of (decision q expected) (bottomOf self).interval) self)
+        ensures { (bottom_of result ≡ within (part_of (decision q expected) (bottom_of self).interval) self)
             × (result.width ≤ result.top) × (result.top ≤ self.top) }
     {
         if expected {
@@ -107,8 +107,8 @@ impl Top {
     // The top and the width doubled while the width is below 1000 hex: all at once.
     fn grow(self) -> TopGrown
         requires { (1 ≤ self.width) × (self.width < 8192) × (self.width ≤ self.top) × (self.top < 2 ^ 26)
-            × (self.count < maxShifts) }
-        ensures { (bottomOf result.coder ≡ within (grown 12 (bottomOf self).interval) self)
+            × (self.count < max_shifts) }
+        ensures { (bottom_of result.coder ≡ within (grown 12 (bottom_of self).interval) self)
             × (result.coder.width ≤ result.coder.top) × (result.shifts ≡ doublings 12 self.width) }
     {
         let k = interval::shifts_for(self.width);
@@ -127,11 +127,11 @@ impl Top {
 
     // One pel.
     pub fn pel(self, q: u64, expected: bool) -> TopPut
-        requires { Ready (lift (bottomOf self) []) × (self.width ≤ self.top) × (1 ≤ q) × (q ≤ 0xAC1)
-            × (self.count < maxShifts) }
-        ensures { (pel (decision q expected) (lift (bottomOf self) []) ≡ lift (bottomOf result.coder)
-            (topSettled result)) × (result.coder.width ≤ result.coder.top) × (result.settled ≤ 2)
-            × (result.shifts ≡ doublings 12 (part_of (decision q expected) (bottomOf self).interval).width) }
+        requires { Ready (lift (bottom_of self) []) × (self.width ≤ self.top) × (1 ≤ q) × (q ≤ 0xAC1)
+            × (self.count < max_shifts) }
+        ensures { (pel (decision q expected) (lift (bottom_of self) []) ≡ lift (bottom_of result.coder)
+            (top_settled result)) × (result.coder.width ≤ result.coder.top) × (result.settled ≤ 2)
+            × (result.shifts ≡ doublings 12 (part_of (decision q expected) (bottom_of self).interval).width) }
     {
         let part = self.part(q, expected);
         let v = part.grow();

@@ -5,36 +5,36 @@ use Prim.Native.Nat.{ℕ}
 use mathlib.Core.List.{List, [], ◌++◌}
 use lib.ListN.{drop}
 use Rattle.coder.specs.Page.{Page}
-use Rattle.engine.specs.Coded.{shiftsOf, Coded}
+use Rattle.engine.specs.Coded.{shifts_of, Coded}
 use Rattle.engine.proofs.Engine.{IsEngine}
 use Rattle.engine.proofs.Verdict.{end-code, end-shifts, end-revisits, end-model}
 use Rattle.octets.specs.declared.Coder.{Coder}
 use Rattle.octets.specs.Octets.{start}
 use Rattle.octets.specs.Lift.{lift}
 use Rattle.top.specs.declared.Top.{Top}
-use Rattle.top.specs.Top.{bottomOf, above_of}
+use Rattle.top.specs.Top.{bottom_of, above_of}
 use Rattle.top.proofs.Moved.{above-bottom, above_holds}
-use Rattle.row.specs.QEngine.{qEngine}
-use Rattle.row.proofs.QEngine.{qIsEngine}
-use Rattle.top_row.specs.TopRow.{topEngine}
+use Rattle.row.specs.QEngine.{q_engine}
+use Rattle.row.proofs.QEngine.{q_is_engine}
+use Rattle.top_row.specs.TopRow.{top_engine}
 
-pub topIsEngine : IsEngine topEngine
-topIsEngine =
+pub top_is_engine : IsEngine top_engine
+top_is_engine =
     record {
-      puts = λ q e c d xs ys k. qIsEngine.puts q e (bottomOf c) (bottomOf d) xs ys k.0;
-      moves = λ q e c xs. qIsEngine.moves q e (bottomOf c) xs;
-      count = λ c xs. qIsEngine.count (bottomOf c) xs;
-      twelve = λ q e c d ys k. qIsEngine.twelve q e (bottomOf c) (bottomOf d) ys k.0;
-      counts = qIsEngine.counts;
-      ready = λ e b c d ys l r k. (qIsEngine.ready e b (bottomOf c) (bottomOf d) ys l r.0 k.0, k.1);
-      next = qIsEngine.next;
-      ends = λ c xs. qIsEngine.ends (bottomOf c) xs;
-      some = λ c. qIsEngine.some (bottomOf c);
+      puts = λ q e c d xs ys k. q_is_engine.puts q e (bottom_of c) (bottom_of d) xs ys k.0;
+      moves = λ q e c xs. q_is_engine.moves q e (bottom_of c) xs;
+      count = λ c xs. q_is_engine.count (bottom_of c) xs;
+      twelve = λ q e c d ys k. q_is_engine.twelve q e (bottom_of c) (bottom_of d) ys k.0;
+      counts = q_is_engine.counts;
+      ready = λ e b c d ys l r k. (q_is_engine.ready e b (bottom_of c) (bottom_of d) ys l r.0 k.0, k.1);
+      next = q_is_engine.next;
+      ends = λ c xs. q_is_engine.ends (bottom_of c) xs;
+      some = λ c. q_is_engine.some (bottom_of c);
     }
 
 -- whatever the second engine codes, the first does, from the string moved down to the string moved down
 pub first-too : (width : ℕ) (m₀ m : Page) (t₀ t : Top) (n₀ n : ℕ) (ps xs : List ℕ)
-    → Coded topEngine width m₀ t₀ n₀ ps m t n xs → Coded qEngine width m₀ (bottomOf t₀) n₀ ps m (bottomOf t) n xs
+    → Coded top_engine width m₀ t₀ n₀ ps m t n xs → Coded q_engine width m₀ (bottom_of t₀) n₀ ps m (bottom_of t) n xs
 first-too width m₀ m t₀ t n₀ n ps xs f =
     record {
       stage = f.stage;
@@ -46,10 +46,10 @@ first-too width m₀ m t₀ t n₀ n ps xs f =
 
 -- whatever the first engine codes, the second does, from the string moved up to the string moved up
 pub second-too : (width : ℕ) (m₀ m : Page) (c₀ c : Coder) (n₀ n : ℕ) (ps xs : List ℕ)
-    → Coded qEngine width m₀ c₀ n₀ ps m c n xs → Coded topEngine width m₀ (above_of c₀) n₀ ps m (above_of c) n xs
+    → Coded q_engine width m₀ c₀ n₀ ps m c n xs → Coded top_engine width m₀ (above_of c₀) n₀ ps m (above_of c) n xs
 second-too width m₀ m c₀ c n₀ n ps xs f =
-    let g : Coded qEngine width m₀ (bottomOf (above_of c₀)) n₀ ps m (bottomOf (above_of c)) n xs
-    = subst₂ (λ (a b : Coder). Coded qEngine width m₀ a n₀ ps m b n xs) (sym (above-bottom c₀)) (sym (above-bottom c))
+    let g : Coded q_engine width m₀ (bottom_of (above_of c₀)) n₀ ps m (bottom_of (above_of c)) n xs
+    = subst₂ (λ (a b : Coder). Coded q_engine width m₀ a n₀ ps m b n xs) (sym (above-bottom c₀)) (sym (above-bottom c))
     f in
     record {
       stage = g.stage;
@@ -62,17 +62,17 @@ second-too width m₀ m c₀ c n₀ n ps xs f =
 -- Request E8: from every table and last row, and for all pels, the second engine gives the bytes, S, the pels revisited
 -- and the table of the first.
 pub first-and-second : (width : ℕ) (m₀ : Page) (ps : List ℕ) (c₀ c : Coder) (t₀ t : Top) (m m' : Page) (n n' : ℕ)
-    (xs ys : List ℕ) → lift c₀ [] ≡ start → lift (bottomOf t₀) [] ≡ start
-    → Coded qEngine width m₀ c₀ 0 ps m c n xs → Coded topEngine width m₀ t₀ 0 ps m' t n' ys
-    → (drop 1 (ys ++ topEngine.last t) ≡ drop 1 (xs ++ qEngine.last c))
-    × (shiftsOf topEngine t ≡ shiftsOf qEngine c) × (n' ≡ n) × (m' ≡ m)
+    (xs ys : List ℕ) → lift c₀ [] ≡ start → lift (bottom_of t₀) [] ≡ start
+    → Coded q_engine width m₀ c₀ 0 ps m c n xs → Coded top_engine width m₀ t₀ 0 ps m' t n' ys
+    → (drop 1 (ys ++ top_engine.last t) ≡ drop 1 (xs ++ q_engine.last c))
+    × (shifts_of top_engine t ≡ shifts_of q_engine c) × (n' ≡ n) × (m' ≡ m)
 first-and-second width m₀ ps c₀ c t₀ t m m' n n' xs ys s z f g = (
-  sym (end-code topEngine topIsEngine width m₀ t₀ ps m' t n' ys z g) ∙ end-code qEngine qIsEngine width m₀ c₀ ps m c n
+  sym (end-code top_engine top_is_engine width m₀ t₀ ps m' t n' ys z g) ∙ end-code q_engine q_is_engine width m₀ c₀ ps m c n
       xs s f,
-  sym (end-shifts topEngine topIsEngine width m₀ t₀ ps m' t n' ys z g) ∙ end-shifts qEngine qIsEngine width m₀ c₀ ps m
+  sym (end-shifts top_engine top_is_engine width m₀ t₀ ps m' t n' ys z g) ∙ end-shifts q_engine q_is_engine width m₀ c₀ ps m
       c n xs s f,
-  sym (end-revisits topEngine topIsEngine width m₀ t₀ ps m' t n' ys z g) ∙ end-revisits qEngine qIsEngine width m₀ c₀
+  sym (end-revisits top_engine top_is_engine width m₀ t₀ ps m' t n' ys z g) ∙ end-revisits q_engine q_is_engine width m₀ c₀
       ps m c n xs s f,
-  sym (end-model topEngine topIsEngine width m₀ t₀ ps m' t n' ys z g) ∙ end-model qEngine qIsEngine width m₀ c₀ ps m c
+  sym (end-model top_engine top_is_engine width m₀ t₀ ps m' t n' ys z g) ∙ end-model q_engine q_is_engine width m₀ c₀ ps m c
       n xs s f,
 )

@@ -3,29 +3,29 @@ use Rattle.std.specs.Prelude.{◌≡◌, ℕ, ◌≤◌, Bool, true, false, List
 use Rattle.engine.specs.Engine.{Engine}
 use Rattle.engine.specs.Coded.{Gives}
 use Rattle.engine.specs.Coded as any
-use Rattle.estimate.specs.Estimate.{rowOf, LawfulEntry}
+use Rattle.estimate.specs.Estimate.{row_of, LawfulEntry}
 use Rattle.interval.specs.Interval.{decision}
 use Rattle.octets.specs.Octets.{pel, finish, ended}
 use Rattle.octets.specs.Fit.{Ready}
 use Rattle.octets.specs.Lift.{lift}
 use Rattle.top.specs.declared.Top.{Top}
 use Rattle.top.specs.declared.TopPut.{TopPut}
-use Rattle.top.specs.Top.{bottomOf, narrowed}
-use Rattle.band.specs.Band.{qScheme, qWriter}
+use Rattle.top.specs.Top.{bottom_of, narrowed}
+use Rattle.band.specs.Band.{q_scheme, q_writer}
 use Rattle.top_row.specs.declared.TopPel.{TopPel}
 
 -- the writer stands where the string at the bottom says
-abbrev pub topEngine : Engine
-topEngine =
+abbrev pub top_engine : Engine
+top_engine =
     record {
-      scheme = qScheme;
-      writer = qWriter;
+      scheme = q_scheme;
+      writer = q_writer;
       Lawful = LawfulEntry;
       Registers = Top;
-      stands = λ t xs. lift (bottomOf t) xs;
-      Ready = λ t. Ready (lift (bottomOf t) []) × (t.width ≤ t.top);
-      Puts = λ q e t u ys. (pel (decision q e) (lift (bottomOf t) []) ≡ lift (bottomOf u) ys) × (u.width ≤ u.top);
-      last = λ t. ended (finish (lift (bottomOf t) []));
+      stands = λ t xs. lift (bottom_of t) xs;
+      Ready = λ t. Ready (lift (bottom_of t) []) × (t.width ≤ t.top);
+      Puts = λ q e t u ys. (pel (decision q e) (lift (bottom_of t) []) ≡ lift (bottom_of u) ys) × (u.width ≤ u.top);
+      last = λ t. ended (finish (lift (bottom_of t) []));
     }
 
 -- ---- one pel: the registers, the entry, whether it shifted, the bytes settled
@@ -39,12 +39,12 @@ given v = record {
 }
 
 abbrev pub Pelled : Top → ℕ → Bool → TopPel → Type 0
-Pelled t e b v = any.Pelled topEngine t e b (given v)
+Pelled t e b v = any.Pelled top_engine t e b (given v)
 
 -- an expected pel with no shift: its size is taken off the width, and that is all
-abbrev pub stillPel : Top → ℕ → TopPel
-stillPel t e = record {
-  coder = narrowed (rowOf e) t;
+abbrev pub still_pel : Top → ℕ → TopPel
+still_pel t e = record {
+  coder = narrowed (row_of e) t;
   entry = e;
   revisited = false;
   settled = 0;
@@ -53,8 +53,8 @@ stillPel t e = record {
 }
 
 -- a pel that shifts
-abbrev pub movedPel : TopPut → ℕ → TopPel
-movedPel u n = record {
+abbrev pub moved_pel : TopPut → ℕ → TopPel
+moved_pel u n = record {
   coder = u.coder;
   entry = n;
   revisited = true;

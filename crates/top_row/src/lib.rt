@@ -1,14 +1,14 @@
 // A row written with the code string at the top of the interval, from the bottom and back to it: the same loop as in
 // `row`, over the second engine.
 ghost use Rattle.std.specs.Prelude.{◌≡◌, [], ◌+◌, ◌*◌, ◌≤◌, ◌<◌, length};
-ghost use Rattle.estimate.specs.Estimate.{rowOf, LawfulEntry, LawfulTable};
+ghost use Rattle.estimate.specs.Estimate.{row_of, LawfulEntry, LawfulTable};
 ghost use Rattle.octets.specs.Fit.{Ready};
 ghost use Rattle.octets.specs.Lift.{lift};
-ghost use Rattle.template.specs.Pels.{pelsTo};
-ghost use Rattle.limits.specs.Limits.{maxWidth, farthest, maxShifts};
+ghost use Rattle.template.specs.Pels.{pels_to};
+ghost use Rattle.limits.specs.Limits.{max_width, farthest, max_shifts};
 ghost use Rattle.row.specs.WrittenRow.{RowDone};
-ghost use Rattle.top.specs.Top.{bottomOf};
-ghost use Rattle.top_row.specs.TopRow.{Pelled, stillPel, movedPel};
+ghost use Rattle.top.specs.Top.{bottom_of};
+ghost use Rattle.top_row.specs.TopRow.{Pelled, still_pel, moved_pel};
 
 use row::Run;
 use template::Window;
@@ -28,8 +28,8 @@ pub struct TopPel {
 
 // An expected pel with no shift: the width alone changes.
 pub fn still_pel(coder: Top, e: u8, q: u64) -> TopPel
-    requires { (q ≡ rowOf e) × (q ≤ coder.width) }
-    ensures { result ≡ stillPel coder e }
+    requires { (q ≡ row_of e) × (q ≤ coder.width) }
+    ensures { result ≡ still_pel coder e }
 {
     let next = coder.still(q);
     TopPel {
@@ -44,7 +44,7 @@ pub fn still_pel(coder: Top, e: u8, q: u64) -> TopPel
 
 // A pel that shifted, and its context's next entry.
 pub fn moved_pel(v: TopPut, entry: u8) -> TopPel
-    ensures { result ≡ movedPel v entry }
+    ensures { result ≡ moved_pel v entry }
 {
     let next = v.coder;
     TopPel {
@@ -59,8 +59,8 @@ pub fn moved_pel(v: TopPut, entry: u8) -> TopPel
 
 // One pel in the context whose entry is e: the expected one, or the other.
 fn put_pel(coder: Top, e: u8, expected: bool) -> TopPel
-    requires { Ready (lift (bottomOf coder) []) × (coder.width ≤ coder.top) × LawfulEntry e
-        × (coder.count < maxShifts) }
+    requires { Ready (lift (bottom_of coder) []) × (coder.width ≤ coder.top) × LawfulEntry e
+        × (coder.count < max_shifts) }
     ensures { Pelled coder e expected result }
 {
     let q = estimate::row_of(e);
@@ -77,11 +77,11 @@ fn put_pel(coder: Top, e: u8, expected: bool) -> TopPel
 
 // One row, under the row above it.
 pub fn write_row(row: &[u8], above: &[u8], width: usize, start: Run, out: &mut [u8]) -> Run
-    requires { (width ≤ maxWidth) × (width ≤ 8 * length row.now) × (width ≤ 8 * length above.now) × (1 ≤ width)
+    requires { (width ≤ max_width) × (width ≤ 8 * length row.now) × (width ≤ 8 * length above.now) × (1 ≤ width)
         × LawfulTable start.table.entries × Ready (lift start.coder [])
-        × (start.coder.interval.count + 12 * maxWidth ≤ maxShifts) × (start.at + 2 * maxWidth ≤ farthest)
+        × (start.coder.interval.count + 12 * max_width ≤ max_shifts) × (start.at + 2 * max_width ≤ farthest)
         × (start.revisits ≤ start.coder.interval.count) }
-    ensures { RowDone width (pelsTo above.now width) row.now start.table.entries
+    ensures { RowDone width (pels_to above.now width) row.now start.table.entries
         start.coder out.old start.at start.revisits result.table.entries result.coder
         out.new result.at result.revisits }
 {

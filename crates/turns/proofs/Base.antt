@@ -19,13 +19,13 @@ one-le true = omega arith
 one-le false = omega arith
 
 -- a cell is reserved where it has a page and no learned table
-abbrev pub onlyReserved : {T P : Type 0} → Option T → Option P → Bool
-onlyReserved (some t) p = false
-onlyReserved none (some p) = true
-onlyReserved none none = false
+abbrev pub only_reserved : {T P : Type 0} → Option T → Option P → Bool
+only_reserved (some t) p = false
+only_reserved none (some p) = true
+only_reserved none none = false
 
 pub placed-sum : {T P : Type 0} (t : Option T) (p : Option P) → one (placed t p) ≡ one (given t) + one
-    (onlyReserved t p)
+    (only_reserved t p)
 placed-sum (some t) p = refl
 placed-sum none (some p) = refl
 placed-sum none none = refl
@@ -41,7 +41,7 @@ placed-none none (some p) e = no_way (ap given e)
 placed-none none none e = refl
 
 pub only-reserved : {T P : Type 0} (t : Option T) (p : Option P) → given t ≡ false → given p ≡ true
-    → onlyReserved t p ≡ true
+    → only_reserved t p ≡ true
 only-reserved (some t) p h q = no_way h
 only-reserved none (some p) h q = refl
 only-reserved none none h q = no_way (sym q)
@@ -58,7 +58,7 @@ room-below false true p a h le = let q : a < p = leb-false p a h in omega arith
 room-below false false p a h le = omega arith
 
 module _ (K : Keys) where
-  open K use {Key, same, same_self, same-only}
+  open K use {Key, same, same_self, same_only}
 
   pub put_self : {A : Type 0} (k : Key) (a : A) (f : Key → A) → put K k a f k ≡ a
   put_self k a f = rw (same_self k)
@@ -69,7 +69,7 @@ module _ (K : Keys) where
   put-each {A} P k a f h r j = go (same k j) refl
     where
       go : (v : Bool) → same k j ≡ v → P j (cond v a (f j))
-      go true e = subst (λ (i : Key). P i a) (same-only k j e) h
+      go true e = subst (λ (i : Key). P i a) (same_only k j e) h
       go false e = r j e
 
   pub put_both : {A B : Type 0} (P : Key → A → B → Type 0) (k : Key) (a : A) (f : Key → A) (b : B) (g : Key → B)
@@ -77,7 +77,7 @@ module _ (K : Keys) where
   put_both P k a f b g h r j = go (same k j) refl
     where
       go : (v : Bool) → same k j ≡ v → P j (cond v a (f j)) (cond v b (g j))
-      go true e = subst (λ (i : Key). P i a b) (same-only k j e) h
+      go true e = subst (λ (i : Key). P i a b) (same_only k j e) h
       go false e = r j
 
   pub put-put : {A : Type 0} (k : Key) (a b : A) (f : Key → A) → put K k b (put K k a f) ≡ put K k b f
@@ -125,7 +125,7 @@ module _ (K : Keys) where
       go true e r = mine (same i j) refl h
         where
           mine : (u : Bool) → same i j ≡ u → cond u true (has j is) ≡ true → has j is ≡ true
-          mine true f h' = no_way (sym f ∙ ap (λ (z : Key). same z j) (same-only i k e) ∙ n)
+          mine true f h' = no_way (sym f ∙ ap (λ (z : Key). same z j) (same_only i k e) ∙ n)
           mine false f h' = h'
       go false e r = other (same i j) h
         where

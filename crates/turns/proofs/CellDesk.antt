@@ -15,42 +15,42 @@ placed (some t) p = true
 placed none (some p) = true
 placed none none = false
 
-abbrev pub hasPage : {T P : Type 0} → Cell T P → Bool
-hasPage x = given x.page
+abbrev pub has_page : {T P : Type 0} → Cell T P → Bool
+has_page x = given x.page
 
-abbrev pub hasPlace : {T P : Type 0} → Cell T P → Bool
-hasPlace x = placed x.learned x.page
+abbrev pub has_place : {T P : Type 0} → Cell T P → Bool
+has_place x = placed x.learned x.page
 
 module _ (O : Office) where
   open O use {Key, Table, Page, Call, Output, key, act, refusal, pages, places}
 
   pub record Desk : Type 0 where
     pub cells : Key → Cell Table Page
-    pub pagesOpen : ℕ
-    pub placesTaken : ℕ
+    pub pages_open : ℕ
+    pub places_taken : ℕ
 
   pub record Outcome : Type 0 where
     pub mark : Mark
     pub output : Output
     pub desk : Desk
 
-  abbrev pub newDesk : Desk
-  newDesk = record { cells = λ k. cell none none; pagesOpen = 0; placesTaken = 0 }
+  abbrev pub new_desk : Desk
+  new_desk = record { cells = λ k. cell none none; pages_open = 0; places_taken = 0 }
 
   -- the desk with x under k, and the counts as they are then
   unfoldable pub store : Desk → Key → Cell Table Page → Desk
   store d k x = record {
     cells = put (keys (service O)) k x d.cells;
-    pagesOpen = d.pagesOpen + one (hasPage x) - one (hasPage (d.cells k));
-    placesTaken = d.placesTaken + one (hasPlace x) - one (hasPlace (d.cells k));
+    pages_open = d.pages_open + one (has_page x) - one (has_page (d.cells k));
+    places_taken = d.places_taken + one (has_place x) - one (has_place (d.cells k));
   }
 
   -- the call would open one page more than there may be, or take one place more
-  unfoldable pub noPage : Desk → Key → Cell Table Page → Bool
-  noPage d k x = (not (hasPage (d.cells k)) && hasPage x) && leb pages d.pagesOpen
+  unfoldable pub no_page : Desk → Key → Cell Table Page → Bool
+  no_page d k x = (not (has_page (d.cells k)) && has_page x) && leb pages d.pages_open
 
-  unfoldable pub noPlace : Desk → Key → Cell Table Page → Bool
-  noPlace d k x = (not (hasPlace (d.cells k)) && hasPlace x) && leb places d.placesTaken
+  unfoldable pub no_place : Desk → Key → Cell Table Page → Bool
+  no_place d k x = (not (has_place (d.cells k)) && has_place x) && leb places d.places_taken
 
   unfoldable pub admit : Bool → Bool → Desk → Call → Output → Cell Table Page → Outcome
   admit true b d c o x = record { mark = crowded; output = refusal 4 c; desk = d }
@@ -59,7 +59,7 @@ module _ (O : Office) where
 
   unfoldable pub settle : Desk → Call → Result Output (Cell Table Page) → Outcome
   settle d c (refuse o) = record { mark = refused; output = o; desk = d }
-  settle d c (accept o x) = admit (noPage d (key c) x) (noPlace d (key c) x) d c o x
+  settle d c (accept o x) = admit (no_page d (key c) x) (no_place d (key c) x) d c o x
 
   -- one call
   unfoldable pub step : Desk → Call → Outcome

@@ -6,7 +6,7 @@ use lib.Dec.{eqb}
 use borrow.Author.Tests.{eqb-true, eq-eqb}
 use Rattle.turns.specs.Service.{Kind, opening, band, closing, abandoning, looking, changing, Mark, accepted}
 use Rattle.turns.specs.Service.{refused, Service, Entry}
-use Rattle.turns.specs.Serial.{waitsAs, servesAs, serialFrom, serial}
+use Rattle.turns.specs.Serial.{waits_as, serves_as, serial_from, serial}
 
 -- a key, what is asked of it, and a number that tells the calls apart
 pub record Asked : Type 0 where
@@ -20,7 +20,7 @@ toy =
       Key = ℕ;
       same = eqb;
       same_self = λ k. eq-eqb k k refl;
-      same-only = eqb-true;
+      same_only = eqb-true;
       Call = Asked;
       Output = ℕ;
       key = λ (a : Asked). a.owner;
@@ -55,5 +55,5 @@ tags (e ∷ es) = e.call.tag ∷ tags es
 
 -- the look; key 2's page; the drop; key 1's page
 pub served : tags (serial toy turns) ≡ 6 ∷ 2 ∷ 4 ∷ 8 ∷ 9 ∷ 1 ∷ 3 ∷ 7 ∷ 11 ∷ []
-unfolding tags serial serialFrom servesAs waitsAs
+unfolding tags serial serial_from serves_as waits_as
 served = refl

@@ -8,7 +8,7 @@ use Prim.Native.Nat.{◌<◌}
 use Rattle.ground.specs.Options.{given}
 use Rattle.turns.specs.Service.{keys, Entry, calls, Service, Keys}
 use Rattle.turns.proofs.Office.{Cell, accept, Office, cell, service}
-use Rattle.turns.proofs.CellDesk.{hasPage, hasPlace, Desk, store, noPage, noPlace, run, after}
+use Rattle.turns.proofs.CellDesk.{has_page, has_place, Desk, store, no_page, no_place, run, after}
 use Rattle.turns.proofs.Base.{placed-page, put_self, calls-append}
 use Rattle.turns.proofs.Steps.{done, run-accepts, after-accepts, store-again, page-open, page-below, place-held}
 use Rattle.turns.proofs.Steps.{place-by}
@@ -25,8 +25,8 @@ module _ (O : Office) where
   -- A desk at which the key has no page, this learned table, and room for a page.
   pub record Ready (s : Desk O) (k : Key) (t : Option Table) : Type 0 where
     pub at : s.cells k ≡ cell t none
-    pub page-room : s.pagesOpen < pages
-    pub place-room : given t ≡ false → s.placesTaken < places
+    pub page-room : s.pages_open < pages
+    pub place-room : given t ≡ false → s.places_taken < places
 
   -- The calls of an open page, served again at any ready desk with the same learned table, answer the same and leave
   -- the cell x.
@@ -41,15 +41,15 @@ module _ (O : Office) where
       → y.learned ≡ t → given y.page ≡ true → Held (key c) t (done O c o ∷ []) y
   unfolding calls
   held_first c o t y e l g = record {
-    same-run = λ s rest r. run-accepts O s c o y rest (rw r.at e) (no-page s r) (no_place s r);
-    same_end = λ s rest r. after-accepts O s c o y rest (rw r.at e) (no-page s r) (no_place s r);
+    same-run = λ s rest r. run-accepts O s c o y rest (rw r.at e) (no-page s r) (no_place_lem s r);
+    same_end = λ s rest r. after-accepts O s c o y rest (rw r.at e) (no-page s r) (no_place_lem s r);
   }
     where
-      no-page : (s : Desk O) → Ready s (key c) t → noPage O s (key c) y ≡ false
+      no-page : (s : Desk O) → Ready s (key c) t → no_page O s (key c) y ≡ false
       no-page s r = page-below O s (key c) y r.page-room
 
-      no_place : (s : Desk O) → Ready s (key c) t → noPlace O s (key c) y ≡ false
-      no_place s r = place-by O s (key c) y t r.at r.place-room
+      no_place_lem : (s : Desk O) → Ready s (key c) t → no_place O s (key c) y ≡ false
+      no_place_lem s r = place-by O s (key c) y t r.at r.place-room
 
   -- one call more on the open page: a band, or the closing
   pub held_more : (c : Call) (o : Output) (t : Option Table) (es : List (Entry S)) (x y : Cell Table Page)
@@ -76,7 +76,7 @@ module _ (O : Office) where
       there : (s : Desk O) → given ((store O s (key c) x).cells (key c)).page ≡ true
       there s = rw (at s) g
 
-      placed-there : (s : Desk O) → hasPlace ((store O s (key c) x).cells (key c)) ≡ true
+      placed-there : (s : Desk O) → has_place ((store O s (key c) x).cells (key c)) ≡ true
       placed-there s = rw (at s) (placed-page x.learned x.page g)
 
       one-run : (s : Desk O) (rest : List Call) → Ready s (key c) t → run O (store O s (key c) x) (c ∷ rest) ≡ done O c
@@ -84,11 +84,11 @@ module _ (O : Office) where
       one-run s rest r = run-accepts O (store O s (key c) x) c o y rest (rw (at s) e)
           (page-open O (store O s (key c) x) (key c) y (there s)) (place-held O (store O s (key c) x) (key c) y
           (placed-there s))
-          ∙ ap (λ (v : Desk O). done O c o ∷ run O v rest) (store-again O s (key c) x y (ap hasPage r.at) g)
+          ∙ ap (λ (v : Desk O). done O c o ∷ run O v rest) (store-again O s (key c) x y (ap has_page r.at) g)
 
       one_end : (s : Desk O) (rest : List Call) → Ready s (key c) t → after O (store O s (key c) x) (c ∷ rest) ≡ after
           O (store O s (key c) y) rest
       one_end s rest r = after-accepts O (store O s (key c) x) c o y rest (rw (at s) e)
           (page-open O (store O s (key c) x) (key c) y (there s)) (place-held O (store O s (key c) x) (key c) y
           (placed-there s))
-          ∙ ap (λ (v : Desk O). after O v rest) (store-again O s (key c) x y (ap hasPage r.at) g)
+          ∙ ap (λ (v : Desk O). after O v rest) (store-again O s (key c) x y (ap has_page r.at) g)

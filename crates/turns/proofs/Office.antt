@@ -27,7 +27,7 @@ pub record Office : Type 1 where
   pub Key : Type 0
   pub same : Key → Key → Bool
   pub same_self : (k : Key) → same k k ≡ true
-  pub same-only : (j k : Key) → same j k ≡ true → j ≡ k
+  pub same_only : (j k : Key) → same j k ≡ true → j ≡ k
   pub Table : Type 0
   pub Page : Type 0
   pub Call : Type 0
@@ -49,7 +49,7 @@ service O = record {
   Key = O.Key;
   same = O.same;
   same_self = O.same_self;
-  same-only = O.same-only;
+  same_only = O.same_only;
   Call = O.Call;
   Output = O.Output;
   key = O.key;

@@ -5,14 +5,14 @@ use mathlib.Core.Bool.{Bool, true, false}
 use mathlib.Core.List.{List, [], ◌∷◌, ◌++◌}
 use Rattle.turns.specs.Service.{Kind, opening, band, closing, abandoning, looking, changing, Mark, accepted}
 use Rattle.turns.specs.Service.{refused, crowded, Service, keys, put, Entry}
-use Rattle.turns.specs.Serial.{Waiting, waitsAs, servesAs, serialFrom, serial}
+use Rattle.turns.specs.Serial.{Waiting, waits_as, serves_as, serial_from, serial}
 use Rattle.turns.specs.Base.{keep}
 use Rattle.turns.proofs.Base.{put-each}
 use Rattle.ground.proofs.Bools.{no_way}
-use Rattle.turns.specs.Order.{standsAs, standing, ofKey}
+use Rattle.turns.specs.Order.{stands_as, standing, of_key}
 
 module _ (S : Service) where
-  open S use {Key, same, same_self, same-only, key, kind}
+  open S use {Key, same, same_self, same_only, key, kind}
 
   keep_append : {A : Type 0} (v : Bool) (e : A) (es fs : List A) → keep v e (es ++ fs) ≡ keep v e es ++ fs
   keep_append true e es fs = refl
@@ -21,16 +21,16 @@ module _ (S : Service) where
   standing-append : (es fs : List (Entry S)) → standing S (es ++ fs) ≡ standing S es ++ standing S fs
   unfolding standing
   standing-append [] fs = refl
-  standing-append (e ∷ es) fs = ap (λ l. keep (standsAs S e.mark (kind e.call)) e l) (standing-append es fs)
-      ∙ keep_append (standsAs S e.mark (kind e.call)) e (standing S es) (standing S fs)
+  standing-append (e ∷ es) fs = ap (λ l. keep (stands_as S e.mark (kind e.call)) e l) (standing-append es fs)
+      ∙ keep_append (stands_as S e.mark (kind e.call)) e (standing S es) (standing S fs)
 
   -- the waiting lists hold no standing call
   abbrev Quiet : Waiting S → Type 0
   Quiet w = (k : Key) → standing S (w k) ≡ []
 
   serves-standing : (m : Mark) (κ : Kind) (w : Waiting S) (e : Entry S) → e.mark ≡ m → kind e.call ≡ κ → Quiet w
-      → standing S (servesAs S m κ w e) ≡ keep (standsAs S m κ) e []
-  unfolding servesAs standing
+      → standing S (serves_as S m κ w e) ≡ keep (stands_as S m κ) e []
+  unfolding serves_as standing
   serves-standing refused κ w e p q h = refl
   serves-standing crowded κ w e p q h = refl
   serves-standing accepted opening w e p q h = refl
@@ -42,8 +42,8 @@ module _ (S : Service) where
   serves-standing accepted changing w e p q h = rw (p, q)
 
   waits-quiet : (m : Mark) (κ : Kind) (w : Waiting S) (e : Entry S) → e.mark ≡ m → kind e.call ≡ κ → Quiet w
-      → Quiet (waitsAs S m κ w e)
-  unfolding waitsAs standing
+      → Quiet (waits_as S m κ w e)
+  unfolding waits_as standing
   waits-quiet refused κ w e p q h = h
   waits-quiet crowded κ w e p q h = h
   waits-quiet accepted opening w e p q h =
@@ -58,65 +58,65 @@ module _ (S : Service) where
   waits-quiet accepted looking w e p q h = h
   waits-quiet accepted changing w e p q h = h
 
-  order_from : (es : List (Entry S)) (w : Waiting S) → Quiet w → standing S (serialFrom S w es) ≡ standing S es
-  unfolding serialFrom standing
+  order_from : (es : List (Entry S)) (w : Waiting S) → Quiet w → standing S (serial_from S w es) ≡ standing S es
+  unfolding serial_from standing
   order_from [] w h = refl
   order_from (e ∷ es) w h =
-      standing-append (servesAs S e.mark (kind e.call) w e)
-      (serialFrom S (waitsAs S e.mark (kind e.call) w e) es)
+      standing-append (serves_as S e.mark (kind e.call) w e)
+      (serial_from S (waits_as S e.mark (kind e.call) w e) es)
       ∙ rw (
         serves-standing e.mark (kind e.call) w e refl refl h,
         order_from es
-            (waitsAs S e.mark (kind e.call) w e) (waits-quiet e.mark (kind e.call) w e refl refl h),
+            (waits_as S e.mark (kind e.call) w e) (waits-quiet e.mark (kind e.call) w e refl refl h),
       )
-      (sym (keep_append (standsAs S e.mark (kind e.call)) e [] (standing S es)))
+      (sym (keep_append (stands_as S e.mark (kind e.call)) e [] (standing S es)))
 
-  pub in_order : (es : List (Entry S)) → standing S (serial S es) ≡ standing S es
+  pub in_order_lem : (es : List (Entry S)) → standing S (serial S es) ≡ standing S es
   unfolding serial standing
-  in_order es = order_from es (λ k. []) (λ k. refl)
+  in_order_lem es = order_from es (λ k. []) (λ k. refl)
 
   -- ---- one key: what the serial order has of a key is the serial order of that key's own calls
   module _ (k : Key) where
-    ofKey-append : (es fs : List (Entry S)) → ofKey S k (es ++ fs) ≡ ofKey S k es ++ ofKey S k fs
-    unfolding ofKey
-    ofKey-append [] fs = refl
-    ofKey-append (e ∷ es) fs = ap (λ l. keep (same (key e.call) k) e l) (ofKey-append es fs) ∙ keep_append
-        (same (key e.call) k) e (ofKey S k es) (ofKey S k fs)
+    of_key-append : (es fs : List (Entry S)) → of_key S k (es ++ fs) ≡ of_key S k es ++ of_key S k fs
+    unfolding of_key
+    of_key-append [] fs = refl
+    of_key-append (e ∷ es) fs = ap (λ l. keep (same (key e.call) k) e l) (of_key-append es fs) ∙ keep_append
+        (same (key e.call) k) e (of_key S k es) (of_key S k fs)
 
     -- the waiting lists w beside those of the key alone, u
     record Beside (w u : Waiting S) : Type 0 where
-      own : ofKey S k (w k) ≡ u k
-      others : (j : Key) → same j k ≡ false → ofKey S k (w j) ≡ []
+      own : of_key S k (w k) ≡ u k
+      others : (j : Key) → same j k ≡ false → of_key S k (w j) ≡ []
 
     -- a call of the key
     own-serves : (m : Mark) (κ : Kind) (w u : Waiting S) (e : Entry S) → key e.call ≡ k → Beside w u
-        → ofKey S k (servesAs S m κ w e) ≡ servesAs S m κ u e
-    unfolding servesAs ofKey
+        → of_key S k (serves_as S m κ w e) ≡ serves_as S m κ u e
+    unfolding serves_as of_key
     own-serves refused κ w u e q h = refl
     own-serves crowded κ w u e q h = refl
     own-serves accepted opening w u e q h = refl
     own-serves accepted band w u e q h = refl
-    own-serves accepted closing w u e q h = ofKey-append (w (key e.call)) (e ∷ []) ∙ rw (q, h.own, same_self k)
+    own-serves accepted closing w u e q h = of_key-append (w (key e.call)) (e ∷ []) ∙ rw (q, h.own, same_self k)
     own-serves accepted abandoning w u e q h = refl
     own-serves accepted looking w u e q h = rw (q, same_self k)
     own-serves accepted changing w u e q h = rw (q, same_self k)
 
-    beside-put : (w u : Waiting S) (j : Key) (l m : List (Entry S)) → j ≡ k → ofKey S k l ≡ m → Beside w u
+    beside-put : (w u : Waiting S) (j : Key) (l m : List (Entry S)) → j ≡ k → of_key S k l ≡ m → Beside w u
         → Beside (put (keys S) j l w) (put (keys S) j m u)
     beside-put w u j l m q e h = record {
       own = rw (q, same_self k) e;
-      others = λ i n. put-each (keys S) (λ i l. same i k ≡ false → ofKey S k l ≡ []) j l w
+      others = λ i n. put-each (keys S) (λ i l. same i k ≡ false → of_key S k l ≡ []) j l w
           (λ n. no_way (sym (same_self k) ∙ ap (λ (z : Key). same z k) (sym q) ∙ n)) (λ i f. h.others i) i n;
     }
 
     own-waits : (m : Mark) (κ : Kind) (w u : Waiting S) (e : Entry S) → key e.call ≡ k → Beside w u
-        → Beside (waitsAs S m κ w e) (waitsAs S m κ u e)
-    unfolding waitsAs ofKey
+        → Beside (waits_as S m κ w e) (waits_as S m κ u e)
+    unfolding waits_as of_key
     own-waits refused κ w u e q h = h
     own-waits crowded κ w u e q h = h
     own-waits accepted opening w u e q h = beside-put w u (key e.call) (e ∷ []) (e ∷ []) q (rw (q, same_self k)) h
     own-waits accepted band w u e q h = beside-put w u (key e.call) (w (key e.call) ++ (e ∷ []))
-        (u (key e.call) ++ (e ∷ [])) q (ofKey-append (w (key e.call)) (e ∷ []) ∙ rw (q, h.own, same_self k)) h
+        (u (key e.call) ++ (e ∷ [])) q (of_key-append (w (key e.call)) (e ∷ []) ∙ rw (q, h.own, same_self k)) h
     own-waits accepted closing w u e q h = beside-put w u (key e.call) [] [] q refl h
     own-waits accepted abandoning w u e q h = beside-put w u (key e.call) [] [] q refl h
     own-waits accepted looking w u e q h = h
@@ -124,63 +124,63 @@ module _ (S : Service) where
 
     -- a call of another key
     other-serves : (m : Mark) (κ : Kind) (w u : Waiting S) (e : Entry S) → same (key e.call) k ≡ false → Beside w u
-        → ofKey S k (servesAs S m κ w e) ≡ []
-    unfolding servesAs ofKey
+        → of_key S k (serves_as S m κ w e) ≡ []
+    unfolding serves_as of_key
     other-serves refused κ w u e q h = refl
     other-serves crowded κ w u e q h = refl
     other-serves accepted opening w u e q h = refl
     other-serves accepted band w u e q h = refl
     other-serves accepted closing w u e q h =
-        ofKey-append (w (key e.call)) (e ∷ []) ∙ rw (h.others (key e.call) q, q)
+        of_key-append (w (key e.call)) (e ∷ []) ∙ rw (h.others (key e.call) q, q)
     other-serves accepted abandoning w u e q h = refl
     other-serves accepted looking w u e q h = rw q
     other-serves accepted changing w u e q h = rw q
 
-    beside-other : (w u : Waiting S) (j : Key) (l : List (Entry S)) → same j k ≡ false → ofKey S k l ≡ []
+    beside-other : (w u : Waiting S) (j : Key) (l : List (Entry S)) → same j k ≡ false → of_key S k l ≡ []
         → Beside w u → Beside (put (keys S) j l w) u
     beside-other w u j l q e h = record {
       own = rw q h.own;
-      others = λ i n. put-each (keys S) (λ i l. same i k ≡ false → ofKey S k l ≡ []) j l w (λ n. e)
+      others = λ i n. put-each (keys S) (λ i l. same i k ≡ false → of_key S k l ≡ []) j l w (λ n. e)
           (λ i f. h.others i) i n;
     }
 
     other-waits : (m : Mark) (κ : Kind) (w u : Waiting S) (e : Entry S) → same (key e.call) k ≡ false → Beside w u
-        → Beside (waitsAs S m κ w e) u
-    unfolding waitsAs ofKey
+        → Beside (waits_as S m κ w e) u
+    unfolding waits_as of_key
     other-waits refused κ w u e q h = h
     other-waits crowded κ w u e q h = h
     other-waits accepted opening w u e q h = beside-other w u (key e.call) (e ∷ []) q (rw q) h
     other-waits accepted band w u e q h = beside-other w u (key e.call) (w (key e.call) ++ (e ∷ [])) q
-        (ofKey-append (w (key e.call)) (e ∷ []) ∙ rw (h.others (key e.call) q, q)) h
+        (of_key-append (w (key e.call)) (e ∷ []) ∙ rw (h.others (key e.call) q, q)) h
     other-waits accepted closing w u e q h = beside-other w u (key e.call) [] q refl h
     other-waits accepted abandoning w u e q h = beside-other w u (key e.call) [] q refl h
     other-waits accepted looking w u e q h = h
     other-waits accepted changing w u e q h = h
 
-    key-from : (es : List (Entry S)) (w u : Waiting S) → Beside w u → ofKey S k (serialFrom S w es) ≡ serialFrom S u
-        (ofKey S k es)
-    unfolding serialFrom ofKey
+    key-from : (es : List (Entry S)) (w u : Waiting S) → Beside w u → of_key S k (serial_from S w es) ≡ serial_from S u
+        (of_key S k es)
+    unfolding serial_from of_key
     key-from [] w u h = refl
-    key-from (e ∷ es) w u h = ofKey-append (servesAs S e.mark (kind e.call) w e)
-        (serialFrom S (waitsAs S e.mark (kind e.call) w e) es)
-        ∙ go (same (key e.call) k) refl (λ u' h'. key-from es (waitsAs S e.mark (kind e.call) w e) u' h')
+    key-from (e ∷ es) w u h = of_key-append (serves_as S e.mark (kind e.call) w e)
+        (serial_from S (waits_as S e.mark (kind e.call) w e) es)
+        ∙ go (same (key e.call) k) refl (λ u' h'. key-from es (waits_as S e.mark (kind e.call) w e) u' h')
       where
         go : (v : Bool) → same (key e.call) k ≡ v
-            → ((u' : Waiting S) → Beside (waitsAs S e.mark (kind e.call) w e) u'
-            → ofKey S k (serialFrom S (waitsAs S e.mark (kind e.call) w e) es) ≡ serialFrom S u'
-            (ofKey S k es))
-            → ofKey S k (servesAs S e.mark (kind e.call) w e) ++ ofKey S k
-            (serialFrom S (waitsAs S e.mark (kind e.call) w e) es) ≡ serialFrom S u
-            (keep v e (ofKey S k es))
-        go true f ih = let q : key e.call ≡ k = same-only (key e.call) k f in
+            → ((u' : Waiting S) → Beside (waits_as S e.mark (kind e.call) w e) u'
+            → of_key S k (serial_from S (waits_as S e.mark (kind e.call) w e) es) ≡ serial_from S u'
+            (of_key S k es))
+            → of_key S k (serves_as S e.mark (kind e.call) w e) ++ of_key S k
+            (serial_from S (waits_as S e.mark (kind e.call) w e) es) ≡ serial_from S u
+            (keep v e (of_key S k es))
+        go true f ih = let q : key e.call ≡ k = same_only (key e.call) k f in
             rw (
               own-serves e.mark (kind e.call) w u e q h,
-              ih (waitsAs S e.mark (kind e.call) u e)
+              ih (waits_as S e.mark (kind e.call) u e)
                   (own-waits e.mark (kind e.call) w u e q h),
             )
         go false f ih = rw (other-serves e.mark (kind e.call) w u e f h)
             (ih u (other-waits e.mark (kind e.call) w u e f h))
 
-    pub one_key : (es : List (Entry S)) → ofKey S k (serial S es) ≡ serial S (ofKey S k es)
-    unfolding serial ofKey
+    pub one_key : (es : List (Entry S)) → of_key S k (serial S es) ≡ serial S (of_key S k es)
+    unfolding serial of_key
     one_key es = key-from es (λ j. []) (λ j. []) (record { own = refl; others = λ j n. refl })

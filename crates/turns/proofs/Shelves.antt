@@ -33,75 +33,75 @@ given-place none (some p) = refl
 given-place none none = refl
 
 module _ (K : Keys) (Table Page : Type 0) where
-  open K use {Key, same, same-only}
+  open K use {Key, same, same_only}
 
   pub record Shelves : Type 0 where
-    pub pageSlots : Slots K Page
-    pub classPlaces : Slots K (Option Table)
+    pub page_slots : Slots K Page
+    pub class_places : Slots K (Option Table)
 
   -- what stands under a key
   abbrev pub cell_at : Shelves → Key → Cell Table Page
-  cell_at s k = cell (join (find K (Option Table) k s.classPlaces)) (find K Page k s.pageSlots)
+  cell_at s k = cell (join (find K (Option Table) k s.class_places)) (find K Page k s.page_slots)
 
-  unfoldable pub slotStore : Shelves → Key → Cell Table Page → Shelves
-  slotStore s k y =
+  unfoldable pub slot_store : Shelves → Key → Cell Table Page → Shelves
+  slot_store s k y =
       record {
-        pageSlots = update K Page k y.page s.pageSlots;
-        classPlaces = update K (Option Table) k (place_of y.learned y.page) s.classPlaces;
+        page_slots = update K Page k y.page s.page_slots;
+        class_places = update K (Option Table) k (place_of y.learned y.page) s.class_places;
       }
 
   -- 4: a page is to be opened, and no slot is free; 5: a place is to be taken, and none is free
   unfoldable pub no_slot : Shelves → Key → Cell Table Page → Bool
-  no_slot s k y = (not (given (find K Page k s.pageSlots)) && given y.page) && not (free K Page s.pageSlots)
+  no_slot s k y = (not (given (find K Page k s.page_slots)) && given y.page) && not (free K Page s.page_slots)
 
-  unfoldable pub noClassPlace : Shelves → Key → Cell Table Page → Bool
-  noClassPlace s k y = (not (given (find K (Option Table) k s.classPlaces))
-      && given (place_of y.learned y.page)) && not (free K (Option Table) s.classPlaces)
+  unfoldable pub no_class_place : Shelves → Key → Cell Table Page → Bool
+  no_class_place s k y = (not (given (find K (Option Table) k s.class_places))
+      && given (place_of y.learned y.page)) && not (free K (Option Table) s.class_places)
 
   -- different keys; an open page has its place, and a place that is only reserved has its page
   pub record Fitting (s : Shelves) : Type 0 where
-    pub fits : (j : Key) → find K (Option Table) j s.classPlaces ≡ place_of (cell_at s j).learned (cell_at s j).page
-    pub lone-pages : Lone K Page s.pageSlots
-    pub lone-places : Lone K (Option Table) s.classPlaces
+    pub fits : (j : Key) → find K (Option Table) j s.class_places ≡ place_of (cell_at s j).learned (cell_at s j).page
+    pub lone-pages : Lone K Page s.page_slots
+    pub lone-places : Lone K (Option Table) s.class_places
 
   -- one key's cell stored: it stands there, the others are as they were, and all fits as before
   module _ (s : Shelves) (z : Fitting s) (k : Key) (y : Cell Table Page) (f : no_slot s k y ≡ false)
-      (g : noClassPlace s k y ≡ false) where
-    pub pages-then : Updated K Page k y.page s.pageSlots (update K Page k y.page s.pageSlots)
+      (g : no_class_place s k y ≡ false) where
+    pub pages-then : Updated K Page k y.page s.page_slots (update K Page k y.page s.page_slots)
     unfolding no_slot
-    pages-then = updated K Page k y.page s.pageSlots z.lone-pages f
+    pages-then = updated K Page k y.page s.page_slots z.lone-pages f
 
-    pub places_then : Updated K (Option Table) k (place_of y.learned y.page) s.classPlaces
-        (update K (Option Table) k (place_of y.learned y.page) s.classPlaces)
-    unfolding noClassPlace
-    places_then = updated K (Option Table) k (place_of y.learned y.page) s.classPlaces z.lone-places g
+    pub places_then : Updated K (Option Table) k (place_of y.learned y.page) s.class_places
+        (update K (Option Table) k (place_of y.learned y.page) s.class_places)
+    unfolding no_class_place
+    places_then = updated K (Option Table) k (place_of y.learned y.page) s.class_places z.lone-places g
 
-    pub own-cell : y ≡ cell_at (slotStore s k y) k
-    unfolding slotStore
+    pub own-cell : y ≡ cell_at (slot_store s k y) k
+    unfolding slot_store
     own-cell = λ i. record {
       learned = sym (ap join places_then.self ∙ join-place y.learned y.page) i;
       page = sym pages-then.self i;
     }
 
-    pub other-cell : (j : Key) → same k j ≡ false → cell_at (slotStore s k y) j ≡ cell_at s j
-    unfolding slotStore
+    pub other-cell : (j : Key) → same k j ≡ false → cell_at (slot_store s k y) j ≡ cell_at s j
+    unfolding slot_store
     other-cell j n = λ i. record { learned = join (places_then.other j n i); page = pages-then.other j n i }
 
-    fits-then : (j : Key) → find K (Option Table) j (slotStore s k y).classPlaces ≡ place_of
-        (cell_at (slotStore s k y) j).learned (cell_at (slotStore s k y) j).page
-    unfolding slotStore
+    fits-then : (j : Key) → find K (Option Table) j (slot_store s k y).class_places ≡ place_of
+        (cell_at (slot_store s k y) j).learned (cell_at (slot_store s k y) j).page
+    unfolding slot_store
     fits-then j = go (same k j) refl
       where
-        go : (b : Bool) → same k j ≡ b → find K (Option Table) j (slotStore s k y).classPlaces ≡ place_of
-            (cell_at (slotStore s k y) j).learned (cell_at (slotStore s k y) j).page
-        go true e = subst (λ (i : Key). find K (Option Table) i (slotStore s k y).classPlaces ≡ place_of
-            (cell_at (slotStore s k y) i).learned (cell_at (slotStore s k y) i).page) (same-only k j e)
+        go : (b : Bool) → same k j ≡ b → find K (Option Table) j (slot_store s k y).class_places ≡ place_of
+            (cell_at (slot_store s k y) j).learned (cell_at (slot_store s k y) j).page
+        go true e = subst (λ (i : Key). find K (Option Table) i (slot_store s k y).class_places ≡ place_of
+            (cell_at (slot_store s k y) i).learned (cell_at (slot_store s k y) i).page) (same_only k j e)
             (places_then.self ∙ ap (λ (x : Cell Table Page). place_of x.learned x.page) own-cell)
         go false e = places_then.other j e ∙ z.fits j ∙ ap (λ (x : Cell Table Page). place_of x.learned x.page)
             (sym (other-cell j e))
 
-    pub fitting-store : Fitting (slotStore s k y)
-    unfolding slotStore
+    pub fitting-store : Fitting (slot_store s k y)
+    unfolding slot_store
     fitting-store = record { fits = fits-then; lone-pages = pages-then.lone; lone-places = places_then.lone }
 
 -- ---- rows of free slots

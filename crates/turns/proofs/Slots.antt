@@ -15,7 +15,7 @@ use Rattle.turns.specs.Base.{one}
 use Rattle.ground.proofs.Bools.{no_way}
 
 module _ (K : Keys) (A : Type 0) where
-  open K use {Key, same, same_self, same-only}
+  open K use {Key, same, same_self, same_only}
 
   pub record Named : Type 0 where
     pub name : Key
@@ -48,14 +48,14 @@ module _ (K : Keys) (A : Type 0) where
   insert k a (some n ∷ s) = some n ∷ insert k a s
 
   -- the slot of k, if there is one: freed or changed; else the lowest free one is taken
-  unfoldable pub updateBy : Bool → Key → Option A → Slots → Slots
-  updateBy true k none s = erase k s
-  updateBy true k (some a) s = replace k a s
-  updateBy false k none s = s
-  updateBy false k (some a) s = insert k a s
+  unfoldable pub update_by : Bool → Key → Option A → Slots → Slots
+  update_by true k none s = erase k s
+  update_by true k (some a) s = replace k a s
+  update_by false k none s = s
+  update_by false k (some a) s = insert k a s
 
   unfoldable pub update : Key → Option A → Slots → Slots
-  update k o s = updateBy (given (find k s)) k o s
+  update k o s = update_by (given (find k s)) k o s
 
   unfoldable pub used : Slots → ℕ
   used [] = 0
@@ -77,7 +77,7 @@ module _ (K : Keys) (A : Type 0) where
   same-flip j k h = go (same k j) refl
     where
       go : (v : Bool) → same k j ≡ v → v ≡ false
-      go true e = no_way (sym (same_self j) ∙ ap (same j) (sym (same-only k j e)) ∙ h)
+      go true e = no_way (sym (same_self j) ∙ ap (same j) (sym (same_only k j e)) ∙ h)
       go false e = refl
 
   -- ---- found after a change: another name
@@ -89,7 +89,7 @@ module _ (K : Keys) (A : Type 0) where
     where
       go : (v : Bool) → same m.name k ≡ v → find j (erase k s) ≡ find j s
           → find j (cond v (none ∷ s) (some m ∷ erase k s)) ≡ cond (same m.name j) (some m.value) (find j s)
-      go true e ih = rw (same-only m.name k e, n)
+      go true e ih = rw (same_only m.name k e, n)
       go false e ih = rw ih
 
   find-replace : (k j : Key) (a : A) (s : Slots) → same k j ≡ false → find j (replace k a s) ≡ find j s
@@ -101,7 +101,7 @@ module _ (K : Keys) (A : Type 0) where
       go : (v : Bool) → same m.name k ≡ v → find j (replace k a s) ≡ find j s
           → find j (cond v (named k a ∷ s) (some m ∷ replace k a s)) ≡ cond (same m.name j) (some m.value)
           (find j s)
-      go true e ih = rw (same-only m.name k e, n)
+      go true e ih = rw (same_only m.name k e, n)
       go false e ih = rw ih
 
   find-insert : (k j : Key) (a : A) (s : Slots) → same k j ≡ false → find j (insert k a s) ≡ find j s
@@ -119,7 +119,7 @@ module _ (K : Keys) (A : Type 0) where
     where
       go : (v : Bool) → same m.name k ≡ v → find k (erase k s) ≡ none
           → find k (cond v (none ∷ s) (some m ∷ erase k s)) ≡ none
-      go true e ih = rw (← same-only m.name k e) l.0
+      go true e ih = rw (← same_only m.name k e) l.0
       go false e ih = rw e ih
 
   own-replace : (k : Key) (a : A) (s : Slots) → given (find k s) ≡ true → find k (replace k a s) ≡ some a
@@ -223,7 +223,7 @@ module _ (K : Keys) (A : Type 0) where
     where
       go : (v : Bool) → same m.name k ≡ v → Lone (replace k a s)
           → Lone (cond v (named k a ∷ s) (some m ∷ replace k a s))
-      go true e ih = (rw (← same-only m.name k e) l.0, l.1)
+      go true e ih = (rw (← same_only m.name k e) l.0, l.1)
       go false e ih = (find-replace k m.name a s (same-flip m.name k e) ∙ l.0, ih)
 
   lone-insert : (k : Key) (a : A) (s : Slots) → given (find k s) ≡ false → Lone s → Lone (insert k a s)
@@ -261,15 +261,15 @@ module _ (K : Keys) (A : Type 0) where
 
   pub updated : (k : Key) (o : Option A) (s : Slots) → Lone s → ((not (given (find k s)) && given o) && not (free s))
       ≡ false → Updated k o s (update k o s)
-  unfolding update updateBy
+  unfolding update update_by
   updated k o s l r = go (given (find k s)) o refl r
     where
-      is_free : (v : Bool) → not v ≡ false → v ≡ true
-      is_free true h = refl
-      is_free false h = sym h
+      is_free_lem : (v : Bool) → not v ≡ false → v ≡ true
+      is_free_lem true h = refl
+      is_free_lem false h = sym h
 
       go : (v : Bool) (o : Option A) → given (find k s) ≡ v → ((not v && given o) && not (free s)) ≡ false
-          → Updated k o s (updateBy v k o s)
+          → Updated k o s (update_by v k o s)
       go true none e r =
           record {
             self = own-erase k s l;
@@ -294,9 +294,9 @@ module _ (K : Keys) (A : Type 0) where
       }
       go false (some a) e r =
           record {
-            self = own-insert k a s e (is_free (free s) r);
+            self = own-insert k a s e (is_free_lem (free s) r);
             other = λ j n. find-insert k j a s n;
             lone = lone-insert k a s e l;
             size = length-insert k a s;
-            count = rw (e, used-insert k a s (is_free (free s) r)) (omega arith);
+            count = rw (e, used-insert k a s (is_free_lem (free s) r)) (omega arith);
           }

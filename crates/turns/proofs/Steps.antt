@@ -12,7 +12,7 @@ use Rattle.ground.proofs.Bools.{no_way, and-false}
 use Rattle.turns.specs.Service.{accepted, refused, crowded, keys, put, Entry, Service, Keys}
 use Rattle.turns.proofs.Office.{Cell, Result, refuse, accept, Office, cell, service}
 use Rattle.turns.specs.Base.{one}
-use Rattle.turns.proofs.CellDesk.{hasPage, hasPlace, Desk, Outcome, store, noPage, noPlace, admit, settle, step}
+use Rattle.turns.proofs.CellDesk.{has_page, has_place, Desk, Outcome, store, no_page, no_place, admit, settle, step}
 use Rattle.turns.proofs.CellDesk.{run}
 use Rattle.turns.proofs.CellDesk.{after}
 use Rattle.turns.proofs.Base.{one-le, placed-page, put_self, put-put}
@@ -34,10 +34,10 @@ module _ (O : Office) where
     was-refused : (o : Output) → act c (d.cells (key c)) ≡ refuse o
         → Step d c (record { mark = refused; output = o; desk = d })
     was-crowded : (o p : Output) (y : Cell Table Page) → act c (d.cells (key c)) ≡ accept p y
-        → (noPage O d (key c) y ≡ false → noPlace O d (key c) y ≡ false → ⊥)
+        → (no_page O d (key c) y ≡ false → no_place O d (key c) y ≡ false → ⊥)
         → Step d c (record { mark = crowded; output = o; desk = d })
-    was-accepted : (o : Output) (y : Cell Table Page) → act c (d.cells (key c)) ≡ accept o y → noPage O d (key c) y
-        ≡ false → noPlace O d (key c) y ≡ false
+    was-accepted : (o : Output) (y : Cell Table Page) → act c (d.cells (key c)) ≡ accept o y → no_page O d (key c) y
+        ≡ false → no_place O d (key c) y ≡ false
         → Step d c (record { mark = accepted; output = o; desk = store O d (key c) y })
 
   pub step_is : (d : Desk O) (c : Call) → Step d c (step O d c)
@@ -45,18 +45,18 @@ module _ (O : Office) where
   step_is d c = go (act c (d.cells (key c))) refl
     where
       room : (a b : Bool) (o : Output) (y : Cell Table Page) → act c (d.cells (key c)) ≡ accept o y
-          → noPage O d (key c) y ≡ a → noPlace O d (key c) y ≡ b → Step d c (admit O a b d c o y)
+          → no_page O d (key c) y ≡ a → no_place O d (key c) y ≡ b → Step d c (admit O a b d c o y)
       room true b o y e f g = was-crowded _ o y e (λ f' g'. no_way (sym f ∙ f'))
       room false true o y e f g = was-crowded _ o y e (λ f' g'. no_way (sym g ∙ g'))
       room false false o y e f g = was-accepted o y e f g
 
       go : (r : Result Output (Cell Table Page)) → act c (d.cells (key c)) ≡ r → Step d c (settle O d c r)
       go (refuse o) e = was-refused o e
-      go (accept o y) e = room (noPage O d (key c) y) (noPlace O d (key c) y) o y e refl refl
+      go (accept o y) e = room (no_page O d (key c) y) (no_place O d (key c) y) o y e refl refl
 
   -- the other way round: where the act is accepted and there is room, so is the call
   step-accepts : (d : Desk O) (c : Call) (o : Output) (y : Cell Table Page) → act c (d.cells (key c)) ≡ accept o y
-      → noPage O d (key c) y ≡ false → noPlace O d (key c) y ≡ false
+      → no_page O d (key c) y ≡ false → no_place O d (key c) y ≡ false
       → step O d c ≡ record { mark = accepted; output = o; desk = store O d (key c) y }
   unfolding step settle admit
   step-accepts d c o y e f g = rw (e, f, g)
@@ -65,13 +65,13 @@ module _ (O : Office) where
   done c o = record { call = c; mark = accepted; output = o }
 
   pub run-accepts : (d : Desk O) (c : Call) (o : Output) (y : Cell Table Page) (rest : List Call)
-      → act c (d.cells (key c)) ≡ accept o y → noPage O d (key c) y ≡ false → noPlace O d (key c) y ≡ false
+      → act c (d.cells (key c)) ≡ accept o y → no_page O d (key c) y ≡ false → no_place O d (key c) y ≡ false
       → run O d (c ∷ rest) ≡ done c o ∷ run O (store O d (key c) y) rest
   unfolding run
   run-accepts d c o y rest e f g = rw (step-accepts d c o y e f g)
 
   pub after-accepts : (d : Desk O) (c : Call) (o : Output) (y : Cell Table Page) (rest : List Call)
-      → act c (d.cells (key c)) ≡ accept o y → noPage O d (key c) y ≡ false → noPlace O d (key c) y ≡ false
+      → act c (d.cells (key c)) ≡ accept o y → no_page O d (key c) y ≡ false → no_place O d (key c) y ≡ false
       → after O d (c ∷ rest) ≡ after O (store O d (key c) y) rest
   unfolding after
   after-accepts d c o y rest e f g = rw (step-accepts d c o y e f g)
@@ -82,46 +82,46 @@ module _ (O : Office) where
   unfolding store
   store-again s k x y n h = λ i. record {
     cells = put-put K k x y s.cells i;
-    pagesOpen = p i;
-    placesTaken = q i;
+    pages_open = p i;
+    places_taken = q i;
   }
     where
-      p : s.pagesOpen + one (hasPage x) - one (hasPage (s.cells k)) + one (hasPage y) - one
-          (hasPage (put K k x s.cells k)) ≡ s.pagesOpen + one (hasPage y) - one (hasPage (s.cells k))
+      p : s.pages_open + one (has_page x) - one (has_page (s.cells k)) + one (has_page y) - one
+          (has_page (put K k x s.cells k)) ≡ s.pages_open + one (has_page y) - one (has_page (s.cells k))
       p = rw (put_self K k x s.cells, h, n) (omega arith)
 
-      q : s.placesTaken + one (hasPlace x) - one (hasPlace (s.cells k)) + one (hasPlace y) - one
-          (hasPlace (put K k x s.cells k)) ≡ s.placesTaken + one (hasPlace y) - one (hasPlace (s.cells k))
+      q : s.places_taken + one (has_place x) - one (has_place (s.cells k)) + one (has_place y) - one
+          (has_place (put K k x s.cells k)) ≡ s.places_taken + one (has_place y) - one (has_place (s.cells k))
       q = rw (put_self K k x s.cells, placed-page x.learned x.page h)
-          (num-again s.placesTaken (one (hasPlace (s.cells k))) (one (hasPlace y)) (one-le (hasPlace (s.cells k))))
+          (num-again s.places_taken (one (has_place (s.cells k))) (one (has_place y)) (one-le (has_place (s.cells k))))
 
   -- room is there where none more is wanted, or where the count is below the limit
   pub page-open : (s : Desk O) (k : Key) (y : Cell Table Page) → given (s.cells k).page ≡ true
-      → noPage O s k y ≡ false
-  unfolding noPage
+      → no_page O s k y ≡ false
+  unfolding no_page
   page-open s k y h = rw h
 
-  pub page-below : (s : Desk O) (k : Key) (y : Cell Table Page) → s.pagesOpen < pages → noPage O s k y ≡ false
-  unfolding noPage
-  page-below s k y h = rw (lt-leb pages s.pagesOpen h) (and-false (not (hasPage (s.cells k)) && hasPage y))
+  pub page-below : (s : Desk O) (k : Key) (y : Cell Table Page) → s.pages_open < pages → no_page O s k y ≡ false
+  unfolding no_page
+  page-below s k y h = rw (lt-leb pages s.pages_open h) (and-false (not (has_page (s.cells k)) && has_page y))
 
-  pub page-none : (s : Desk O) (k : Key) (y : Cell Table Page) → y.page ≡ none → noPage O s k y ≡ false
-  unfolding noPage
-  page-none s k y h = rw h (go (not (hasPage (s.cells k))))
+  pub page-none : (s : Desk O) (k : Key) (y : Cell Table Page) → y.page ≡ none → no_page O s k y ≡ false
+  unfolding no_page
+  page-none s k y h = rw h (go (not (has_page (s.cells k))))
     where
-      go : (b : Bool) → ((b && false) && leb pages s.pagesOpen) ≡ false
+      go : (b : Bool) → ((b && false) && leb pages s.pages_open) ≡ false
       go true = refl
       go false = refl
 
-  pub place-held : (s : Desk O) (k : Key) (y : Cell Table Page) → hasPlace (s.cells k) ≡ true → noPlace O s k y ≡ false
-  unfolding noPlace
+  pub place-held : (s : Desk O) (k : Key) (y : Cell Table Page) → has_place (s.cells k) ≡ true → no_place O s k y ≡ false
+  unfolding no_place
   place-held s k y h = rw h
 
-  place-below : (s : Desk O) (k : Key) (y : Cell Table Page) → s.placesTaken < places → noPlace O s k y ≡ false
-  unfolding noPlace
-  place-below s k y h = rw (lt-leb places s.placesTaken h) (and-false (not (hasPlace (s.cells k)) && hasPlace y))
+  place-below : (s : Desk O) (k : Key) (y : Cell Table Page) → s.places_taken < places → no_place O s k y ≡ false
+  unfolding no_place
+  place-below s k y h = rw (lt-leb places s.places_taken h) (and-false (not (has_place (s.cells k)) && has_place y))
 
   pub place-by : (s : Desk O) (k : Key) (y : Cell Table Page) (t : Option Table) → s.cells k ≡ cell t none
-      → (given t ≡ false → s.placesTaken < places) → noPlace O s k y ≡ false
+      → (given t ≡ false → s.places_taken < places) → no_place O s k y ≡ false
   place-by s k y none e h = place-below s k y (h refl)
-  place-by s k y (some t) e h = place-held s k y (ap hasPlace e)
+  place-by s k y (some t) e h = place-held s k y (ap has_place e)

@@ -8,13 +8,13 @@ use native.Mathlib.Omega.{arith}
 use Rattle.turns.specs.Service.{Kind, opening, band, closing, abandoning, looking, changing, Mark, accepted}
 use Rattle.turns.specs.Service.{refused, crowded, Service, keys, put, Entry}
 use Rattle.turns.specs.Base.{one}
-use Rattle.turns.specs.Serial.{Waiting, waitsAs, servesAs, serialFrom, serial}
+use Rattle.turns.specs.Serial.{Waiting, waits_as, serves_as, serial_from, serial}
 use Rattle.turns.specs.Base.{keep}
 use Rattle.turns.proofs.Base.{put-each}
-use Rattle.turns.specs.Strike.{count, weight, fateAs, leftAs, closed_in, strike}
+use Rattle.turns.specs.Strike.{count, weight, fate_as, left_as, closed_in, strike}
 
 module _ (S : Service) where
-  open S use {Key, same, same_self, same-only, key, kind}
+  open S use {Key, same, same_self, same_only, key, kind}
 
   module _ (k : Key) (t : Entry S → Bool) where
     count-append : (es fs : List (Entry S)) → count S k t (es ++ fs) ≡ count S k t es + (count S k t) fs
@@ -46,9 +46,9 @@ module _ (S : Service) where
 
     -- a call of k
     own_turn : (m : Mark) (κ : Kind) (w : Waiting S) (e : Entry S) (r : Bool) → key e.call ≡ k
-        → count S k t (servesAs S m κ w e) + cond r (count S k t (waitsAs S m κ w e k)) 0 ≡ cond (leftAs m κ r)
-        (one (t e)) 0 + cond (fateAs true m κ r) (count S k t (w k)) 0
-    unfolding servesAs waitsAs count
+        → count S k t (serves_as S m κ w e) + cond r (count S k t (waits_as S m κ w e k)) 0 ≡ cond (left_as m κ r)
+        (one (t e)) 0 + cond (fate_as true m κ r) (count S k t (w k)) 0
+    unfolding serves_as waits_as count
     own_turn refused κ w e r q = omega arith
     own_turn crowded κ w e r q = omega arith
     own_turn accepted opening w e r q = rw (q, same_self k, q, same_self k) (num-open r (one (t e)))
@@ -62,8 +62,8 @@ module _ (S : Service) where
 
     -- a call of another key
     other-serves : (m : Mark) (κ : Kind) (w : Waiting S) (e : Entry S) → same (key e.call) k ≡ false → Apart w
-        → count S k t (servesAs S m κ w e) ≡ 0
-    unfolding servesAs count
+        → count S k t (serves_as S m κ w e) ≡ 0
+    unfolding serves_as count
     other-serves refused κ w e n h = refl
     other-serves crowded κ w e n h = refl
     other-serves accepted opening w e n h = refl
@@ -74,8 +74,8 @@ module _ (S : Service) where
     other-serves accepted changing w e n h = rw n
 
     other-waits : (m : Mark) (κ : Kind) (w : Waiting S) (e : Entry S) → same (key e.call) k ≡ false
-        → waitsAs S m κ w e k ≡ w k
-    unfolding waitsAs
+        → waits_as S m κ w e k ≡ w k
+    unfolding waits_as
     other-waits refused κ w e n = refl
     other-waits crowded κ w e n = refl
     other-waits accepted opening w e n = rw n
@@ -89,8 +89,8 @@ module _ (S : Service) where
         → Apart (put (keys S) j l w)
     apart-put w j l e h = put-each (keys S) (λ i l. same i k ≡ false → count S k t l ≡ 0) j l w e (λ i f. h i)
 
-    apart-waits : (m : Mark) (κ : Kind) (w : Waiting S) (e : Entry S) → Apart w → Apart (waitsAs S m κ w e)
-    unfolding waitsAs count
+    apart-waits : (m : Mark) (κ : Kind) (w : Waiting S) (e : Entry S) → Apart w → Apart (waits_as S m κ w e)
+    unfolding waits_as count
     apart-waits refused κ w e h = h
     apart-waits crowded κ w e h = h
     apart-waits accepted opening w e h = apart-put w (key e.call) (e ∷ []) (λ n. rw n) h
@@ -104,43 +104,43 @@ module _ (S : Service) where
     num-go : (s f l x y g a : ℕ) → f ≡ a + x → s + x ≡ l + y → s + f ≡ (l + a) + y
     num-go s f l x y g a p q = omega arith
 
-    count-from : (es : List (Entry S)) (w : Waiting S) → Apart w → count S k t (serialFrom S w es) ≡ count S k t
+    count-from : (es : List (Entry S)) (w : Waiting S) → Apart w → count S k t (serial_from S w es) ≡ count S k t
         (strike S es) + cond (closed_in S k es) (count S k t (w k)) 0
-    unfolding serialFrom strike closed_in count
+    unfolding serial_from strike closed_in count
     count-from [] w h = refl
-    count-from (e ∷ es) w h = count-append (servesAs S e.mark (kind e.call) w e)
-        (serialFrom S (waitsAs S e.mark (kind e.call) w e) es)
-        ∙ num-go (count S k t (servesAs S e.mark (kind e.call) w e))
-        (count S k t (serialFrom S (waitsAs S e.mark (kind e.call) w e) es))
-        (cond (leftAs e.mark (kind e.call) (closed_in S (key e.call) es)) (weight S k t e) 0)
-        (cond (closed_in S k es) (count S k t (waitsAs S e.mark (kind e.call) w e k)) 0)
-        (cond (fateAs (same (key e.call) k) e.mark (kind e.call) (closed_in S k es)) (count S k t (w k)) 0)
+    count-from (e ∷ es) w h = count-append (serves_as S e.mark (kind e.call) w e)
+        (serial_from S (waits_as S e.mark (kind e.call) w e) es)
+        ∙ num-go (count S k t (serves_as S e.mark (kind e.call) w e))
+        (count S k t (serial_from S (waits_as S e.mark (kind e.call) w e) es))
+        (cond (left_as e.mark (kind e.call) (closed_in S (key e.call) es)) (weight S k t e) 0)
+        (cond (closed_in S k es) (count S k t (waits_as S e.mark (kind e.call) w e k)) 0)
+        (cond (fate_as (same (key e.call) k) e.mark (kind e.call) (closed_in S k es)) (count S k t (w k)) 0)
         0 (count S k t (strike S es))
-        (count-from es (waitsAs S e.mark (kind e.call) w e) (apart-waits e.mark (kind e.call) w e h))
+        (count-from es (waits_as S e.mark (kind e.call) w e) (apart-waits e.mark (kind e.call) w e h))
         (go (same (key e.call) k) refl)
-        ∙ ap (λ n. n + cond (fateAs (same (key e.call) k) e.mark (kind e.call) (closed_in S k es))
+        ∙ ap (λ n. n + cond (fate_as (same (key e.call) k) e.mark (kind e.call) (closed_in S k es))
         (count S k t (w k)) 0)
-        (sym (count-keep (leftAs e.mark (kind e.call) (closed_in S (key e.call) es)) e (strike S es)))
+        (sym (count-keep (left_as e.mark (kind e.call) (closed_in S (key e.call) es)) e (strike S es)))
       where
         go : (v : Bool) → same (key e.call) k ≡ v
-            → count S k t (servesAs S e.mark (kind e.call) w e) + cond (closed_in S k es)
-            (count S k t (waitsAs S e.mark (kind e.call) w e k)) 0
-            ≡ cond (leftAs e.mark (kind e.call) (closed_in S (key e.call) es)) (cond v (one (t e)) 0) 0 +
-            cond (fateAs v e.mark (kind e.call) (closed_in S k es)) (count S k t (w k)) 0
-        go true f = let q : key e.call ≡ k = same-only (key e.call) k f in
+            → count S k t (serves_as S e.mark (kind e.call) w e) + cond (closed_in S k es)
+            (count S k t (waits_as S e.mark (kind e.call) w e k)) 0
+            ≡ cond (left_as e.mark (kind e.call) (closed_in S (key e.call) es)) (cond v (one (t e)) 0) 0 +
+            cond (fate_as v e.mark (kind e.call) (closed_in S k es)) (count S k t (w k)) 0
+        go true f = let q : key e.call ≡ k = same_only (key e.call) k f in
             own_turn e.mark (kind e.call) w e (closed_in S k es) q
-            ∙ ap (λ (j : Key). cond (leftAs e.mark (kind e.call) (closed_in S j es)) (one (t e)) 0 + cond
-            (fateAs true e.mark (kind e.call) (closed_in S k es)) (count S k t (w k)) 0) (sym q)
+            ∙ ap (λ (j : Key). cond (left_as e.mark (kind e.call) (closed_in S j es)) (one (t e)) 0 + cond
+            (fate_as true e.mark (kind e.call) (closed_in S k es)) (count S k t (w k)) 0) (sym q)
         go false f = rw (
           other-serves e.mark (kind e.call) w e f h,
           other-waits e.mark (kind e.call) w e f,
-          num-none (leftAs e.mark (kind e.call) (closed_in S (key e.call) es)),
+          num-none (left_as e.mark (kind e.call) (closed_in S (key e.call) es)),
         )
 
     -- ---- exactly what is left
-    pub nothing-lost : (es : List (Entry S)) → count S k t (serial S es) ≡ count S k t (strike S es)
+    pub nothing_lost : (es : List (Entry S)) → count S k t (serial S es) ≡ count S k t (strike S es)
     unfolding serial count
-    nothing-lost es = count-from es (λ j. []) (λ j n. refl) ∙ last (closed_in S k es)
+    nothing_lost es = count-from es (λ j. []) (λ j n. refl) ∙ last (closed_in S k es)
       where
         last : (b : Bool) → count S k t (strike S es) + cond b 0 0 ≡ count S k t (strike S es)
         last true = omega arith

@@ -9,8 +9,8 @@ use Rattle.ground.specs.Options.{given}
 use Rattle.turns.specs.Service.{keys, Service, Keys}
 use Rattle.turns.proofs.Office.{Cell, Office, service}
 use Rattle.turns.specs.Base.{one}
-use Rattle.turns.proofs.CellDesk.{hasPlace, Desk, store, noPlace}
-use Rattle.turns.proofs.Base.{onlyReserved, placed-sum, room-below, put-each, has, relist, has_one}
+use Rattle.turns.proofs.CellDesk.{has_place, Desk, store, no_place}
+use Rattle.turns.proofs.Base.{only_reserved, placed-sum, room-below, put-each, has, relist, has_one}
 use Rattle.turns.proofs.Base.{relist-length, relist-self, relist-other}
 
 num-count : (a l k gx gy rx ry px py : ℕ) → a ≡ l + k → px ≡ gx + rx → py ≡ gy + ry → gx ≤ l → rx ≤ k
@@ -28,35 +28,35 @@ module _ (O : Office) where
 
   -- ls are the keys with a learned table, ks those that only reserve a place
   pub record Tally (d : Desk O) (ls ks : List Key) : Type 0 where
-    pub count : d.placesTaken ≡ length ls + length ks
-    pub below : d.placesTaken ≤ places
+    pub count : d.places_taken ≡ length ls + length ks
+    pub below : d.places_taken ≤ places
     pub learnt : (j : Key) → given (d.cells j).learned ≡ true → has K j ls ≡ true
-    pub reserved : (j : Key) → onlyReserved (d.cells j).learned (d.cells j).page ≡ true → has K j ks ≡ true
+    pub reserved : (j : Key) → only_reserved (d.cells j).learned (d.cells j).page ≡ true → has K j ks ≡ true
 
-  abbrev pub learnedNow : Desk O → Key → Cell Table Page → List Key → List Key
-  learnedNow d k y ls = relist K k (given (d.cells k).learned) (given y.learned) ls
+  abbrev pub learned_now : Desk O → Key → Cell Table Page → List Key → List Key
+  learned_now d k y ls = relist K k (given (d.cells k).learned) (given y.learned) ls
 
-  abbrev pub reservedNow : Desk O → Key → Cell Table Page → List Key → List Key
-  reservedNow d k y ks =
-      relist K k (onlyReserved (d.cells k).learned (d.cells k).page) (onlyReserved y.learned y.page) ks
+  abbrev pub reserved_now : Desk O → Key → Cell Table Page → List Key → List Key
+  reserved_now d k y ks =
+      relist K k (only_reserved (d.cells k).learned (d.cells k).page) (only_reserved y.learned y.page) ks
 
   one_in : (k : Key) (b : Bool) (js : List Key) → (b ≡ true → has K k js ≡ true) → one b ≤ length js
   one_in k true js h = has_one K k js (h refl)
   one_in k false js h = omega arith
 
   pub tally-store : (d : Desk O) (k : Key) (y : Cell Table Page) (ls ks : List Key) → Tally d ls ks
-      → noPlace O d k y ≡ false → Tally (store O d k y) (learnedNow d k y ls) (reservedNow d k y ks)
-  unfolding store noPlace
+      → no_place O d k y ≡ false → Tally (store O d k y) (learned_now d k y ls) (reserved_now d k y ks)
+  unfolding store no_place
   tally-store d k y ls ks i n = record {
     count = rw (relist-length K k gx gy ls (i.learnt k), relist-length K k rx ry ks (i.reserved k))
-        (num-count d.placesTaken (length ls) (length ks) (one gx) (one gy) (one rx) (one ry)
-        (one (hasPlace (d.cells k))) (one (hasPlace y)) i.count
+        (num-count d.places_taken (length ls) (length ks) (one gx) (one gy) (one rx) (one ry)
+        (one (has_place (d.cells k))) (one (has_place y)) i.count
         (placed-sum (d.cells k).learned (d.cells k).page) (placed-sum y.learned y.page)
         (one_in k gx ls (i.learnt k)) (one_in k rx ks (i.reserved k)));
-    below = room-below (hasPlace (d.cells k)) (hasPlace y) places d.placesTaken n i.below;
+    below = room-below (has_place (d.cells k)) (has_place y) places d.places_taken n i.below;
     learnt = put-each K (λ j x. given x.learned ≡ true → has K j (relist K k gx gy ls) ≡ true) k y d.cells
         (relist-self K k gx gy ls (i.learnt k)) (λ j f h. relist-other K k j gx gy ls f (i.learnt j h));
-    reserved = put-each K (λ j x. onlyReserved x.learned x.page ≡ true → has K j (relist K k rx ry ks) ≡ true) k
+    reserved = put-each K (λ j x. only_reserved x.learned x.page ≡ true → has K j (relist K k rx ry ks) ≡ true) k
         y d.cells
         (relist-self K k rx ry ks (i.reserved k)) (λ j f h. relist-other K k j rx ry ks f (i.reserved j h));
   }
@@ -68,7 +68,7 @@ module _ (O : Office) where
       gy = given y.learned
 
       rx : Bool
-      rx = onlyReserved (d.cells k).learned (d.cells k).page
+      rx = only_reserved (d.cells k).learned (d.cells k).page
 
       ry : Bool
-      ry = onlyReserved y.learned y.page
+      ry = only_reserved y.learned y.page

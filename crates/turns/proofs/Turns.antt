@@ -16,10 +16,10 @@ use Rattle.turns.specs.Service.{Kind, opening, band, closing, abandoning, lookin
 use Rattle.turns.specs.Service.{Entry, calls, Service, Keys}
 use Rattle.turns.proofs.Office.{Cell, accept, Office, cell, service}
 use Rattle.turns.specs.Base.{one}
-use Rattle.turns.proofs.CellDesk.{placed, hasPage, hasPlace, Desk, Outcome, newDesk, store, noPage, noPlace}
+use Rattle.turns.proofs.CellDesk.{placed, has_page, has_place, Desk, Outcome, new_desk, store, no_page, no_place}
 use Rattle.turns.proofs.CellDesk.{step}
 use Rattle.turns.proofs.CellDesk.{entry, run, after}
-use Rattle.turns.specs.Serial.{Waiting, waitsAs, servesAs, serialFrom, serial, Begun, begins, goes_on, Whole}
+use Rattle.turns.specs.Serial.{Waiting, waits_as, serves_as, serial_from, serial, Begun, begins, goes_on, Whole}
 use Rattle.turns.specs.Serial.{nothing, page, look, change}
 use Rattle.turns.proofs.OfficeLaws.{Keeping, Laws, law-of}
 use Rattle.turns.proofs.Base.{placed-none, only-reserved, room-down, put-each, put_both, has_one, relist-length}
@@ -27,7 +27,7 @@ use Rattle.turns.proofs.Base.{calls-append}
 use Rattle.turns.proofs.Steps.{Step, was-refused, was-crowded, was-accepted, step_is, done, run-accepts}
 use Rattle.turns.proofs.Steps.{after-accepts, page-none}
 use Rattle.turns.proofs.Held.{Ready, Held, held_first, held_more}
-use Rattle.turns.proofs.Tally.{Tally, learnedNow, reservedNow, tally-store}
+use Rattle.turns.proofs.Tally.{Tally, learned_now, reserved_now, tally-store}
 
 -- a cell without its page
 abbrev pub shut : {T P : Type 0} → Cell T P → Cell T P
@@ -44,7 +44,7 @@ module _ (O : Office) where
 
   -- ---- the serial desk beside the desk: the same learned tables, no page
   unfoldable bare : Desk O → ℕ → Desk O
-  bare d n = record { cells = λ k. shut (d.cells k); pagesOpen = 0; placesTaken = n }
+  bare d n = record { cells = λ k. shut (d.cells k); pages_open = 0; places_taken = n }
 
   -- ---- the invariant: the calls that wait under each open page lead, from its learned table, to its working state
   record Inv (d : Desk O) (w : Waiting S) (ls ks : List Key) : Type 0 where
@@ -70,7 +70,7 @@ module _ (O : Office) where
   }
 
   served-one : (c : Call) (o : Output) (L : List (Entry S)) (y : Cell Table Page) (s d : Desk O)
-      → act c (s.cells (key c)) ≡ accept o y → noPage O s (key c) y ≡ false → noPlace O s (key c) y ≡ false
+      → act c (s.cells (key c)) ≡ accept o y → no_page O s (key c) y ≡ false → no_place O s (key c) y ≡ false
       → (Whole S L → Whole S (done O c o ∷ L)) → Served (store O s (key c) y) L d → Served s (done O c o ∷ L) d
   unfolding calls
   served-one c o L y s d e f g i v = record {
@@ -85,8 +85,8 @@ module _ (O : Office) where
   bare-same d k y n e = λ i. record {
     cells = λ j. put-each K (λ j x. shut x ≡ shut (d.cells j)) k y d.cells (ap (λ (t : Option Table). cell t none)
         e) (λ j f. refl) j i;
-    pagesOpen = 0;
-    placesTaken = n;
+    pages_open = 0;
+    places_taken = n;
   }
 
   bare-store : (d : Desk O) (k : Key) (y z : Cell Table Page) (n : ℕ) → z.page ≡ none → z.learned ≡ y.learned
@@ -95,14 +95,14 @@ module _ (O : Office) where
   bare-store d k y z n p e = λ i. record {
     cells = λ j. put_both K (λ j a b. a ≡ shut b) k z (λ j. shut (d.cells j)) y d.cells
         (λ i. record { learned = e i; page = p i }) (λ j. refl) j i;
-    pagesOpen = pg i;
-    placesTaken = pl i;
+    pages_open = pg i;
+    places_taken = pl i;
   }
     where
-      pg : 0 + one (hasPage z) - one (hasPage (shut (d.cells k))) ≡ 0
+      pg : 0 + one (has_page z) - one (has_page (shut (d.cells k))) ≡ 0
       pg = rw p
 
-      pl : n + one (hasPlace z) - one (hasPlace (shut (d.cells k))) ≡ n + one (given y.learned) - one
+      pl : n + one (has_place z) - one (has_place (shut (d.cells k))) ≡ n + one (given y.learned) - one
           (given (d.cells k).learned)
       pl = rw (placed-none z.learned z.page p, e, placed-none {P = Page} (d.cells k).learned none refl)
 
@@ -110,16 +110,16 @@ module _ (O : Office) where
   served-at s s' L d e v = subst (λ (u : Desk O). Served u L d) e v
 
   module _ (d : Desk O) (c : Call) (o : Output) (y : Cell Table Page) (a : act c (d.cells (key c)) ≡ accept o y)
-      (np : noPage O d (key c) y ≡ false) (nq : noPlace O d (key c) y ≡ false) (w : Waiting S) (ls ks : List Key)
+      (np : no_page O d (key c) y ≡ false) (nq : no_place O d (key c) y ≡ false) (w : Waiting S) (ls ks : List Key)
       (inv : Inv d w ls ks) where
     abbrev now : Desk O
     now = store O d (key c) y
 
     abbrev ls' : List Key
-    ls' = learnedNow O d (key c) y ls
+    ls' = learned_now O d (key c) y ls
 
     abbrev ks' : List Key
-    ks' = reservedNow O d (key c) y ks
+    ks' = reserved_now O d (key c) y ks
 
     inv-put : (es : List (Entry S)) → (given y.page ≡ true → Held O (key c) y.learned es y)
         → (given y.page ≡ true → 0 < pages) → (given y.page ≡ true → Begun S (key c) es)
@@ -176,17 +176,17 @@ module _ (O : Office) where
     no-given e {A} g = no_way (sym g ∙ ap given e)
 
     room-then : (d.cells (key c)).page ≡ none → given y.page ≡ true → 0 < pages
-    unfolding noPage
-    room-then p g = let h : d.pagesOpen < pages = leb-false pages d.pagesOpen (rw (p, g) at np) in omega arith
+    unfolding no_page
+    room-then p g = let h : d.pages_open < pages = leb-false pages d.pages_open (rw (p, g) at np) in omega arith
 
     look-bare : act c (cell (d.cells (key c)).learned none) ≡ accept o (cell (d.cells (key c)).learned none)
         → act c ((bare d (length ls)).cells (key c)) ≡ accept o (shut (d.cells (key c)))
     unfolding bare
     look-bare e = e
 
-    place_same : (n : ℕ) → noPlace O (bare d n) (key c) (shut (d.cells (key c))) ≡ false
-    unfolding noPlace bare
-    place_same n = go (hasPlace (shut (d.cells (key c))))
+    place_same : (n : ℕ) → no_place O (bare d n) (key c) (shut (d.cells (key c))) ≡ false
+    unfolding no_place bare
+    place_same n = go (has_place (shut (d.cells (key c))))
       where
         go : (b : Bool) → ((not b && b) && leb places n) ≡ false
         go true = refl
@@ -196,20 +196,20 @@ module _ (O : Office) where
     unfolding bare
     change-bare p = subst (λ (q : Option Page). act c (cell (d.cells (key c)).learned q) ≡ accept o y) p a
 
-    place-bare : (d.cells (key c)).page ≡ none → noPlace O (bare d (length ls)) (key c) y ≡ false
-    unfolding noPlace bare
-    place-bare p = room-down (not (hasPlace (shut (d.cells (key c)))) && hasPlace y) places d.placesTaken
+    place-bare : (d.cells (key c)).page ≡ none → no_place O (bare d (length ls)) (key c) y ≡ false
+    unfolding no_place bare
+    place-bare p = room-down (not (has_place (shut (d.cells (key c)))) && has_place y) places d.places_taken
         (length ls)
-        (subst (λ (q : Option Page). ((not (placed (d.cells (key c)).learned q) && hasPlace y) && leb places
-        d.placesTaken) ≡ false) p nq)
+        (subst (λ (q : Option Page). ((not (placed (d.cells (key c)).learned q) && has_place y) && leb places
+        d.places_taken) ≡ false) p nq)
         (omega (arith, inv.tally.count))
 
     module _ (L : Laws O) (cs : List Call)
         (ih : (w' : Waiting S) (ls'' ks'' : List Key) → Inv now w' ls'' ks'' → Served (bare now (length ls''))
-        (serialFrom S w' (run O now cs)) (after O now cs)) where
-      turn : (κ : Kind) → kind c ≡ κ → Served (bare d (length ls)) (servesAs S accepted κ w (done O c o) ++ serialFrom
-          S (waitsAs S accepted κ w (done O c o)) (run O now cs)) (after O now cs)
-      unfolding servesAs waitsAs Keeping
+        (serial_from S w' (run O now cs)) (after O now cs)) where
+      turn : (κ : Kind) → kind c ≡ κ → Served (bare d (length ls)) (serves_as S accepted κ w (done O c o) ++ serial_from
+          S (waits_as S accepted κ w (done O c o)) (run O now cs)) (after O now cs)
+      unfolding serves_as waits_as Keeping
       turn opening q =
           let f = law-of O L opening c (d.cells (key c)) o y q a in
           served-at (bare now (length ls')) (bare d (length ls)) _ _ (bare-now f.1)
@@ -264,24 +264,24 @@ module _ (O : Office) where
 
   -- the invariant leads through any run
   through : (L : Laws O) (cs : List Call) (d : Desk O) (w : Waiting S) (ls ks : List Key) → Inv d w ls ks
-      → Served (bare d (length ls)) (serialFrom S w (run O d cs)) (after O d cs)
-  unfolding run after serialFrom calls servesAs waitsAs bare
+      → Served (bare d (length ls)) (serial_from S w (run O d cs)) (after O d cs)
+  unfolding run after serial_from calls serves_as waits_as bare
   through L [] d w ls ks i = record { whole = nothing; answers = refl; tables = λ k. refl }
   through L (c ∷ cs) d w ls ks i = go (step O d c) (step_is O d c) (λ d' w' ls' ks' i'. through L cs d' w' ls' ks' i')
     where
       go : (r : Outcome O) → Step O d c r → ((d' : Desk O) (w' : Waiting S) (ls' ks' : List Key) → Inv d' w' ls' ks'
-          → Served (bare d' (length ls')) (serialFrom S w' (run O d' cs)) (after O d' cs))
-          → Served (bare d (length ls)) (servesAs S r.mark (kind c) w (entry O c r) ++ serialFrom S
-          (waitsAs S r.mark (kind c) w (entry O c r)) (run O r.desk cs)) (after O r.desk cs)
+          → Served (bare d' (length ls')) (serial_from S w' (run O d' cs)) (after O d' cs))
+          → Served (bare d (length ls)) (serves_as S r.mark (kind c) w (entry O c r) ++ serial_from S
+          (waits_as S r.mark (kind c) w (entry O c r)) (run O r.desk cs)) (after O r.desk cs)
       go r (was-refused o e) ih = ih d w ls ks i
       go r (was-crowded o p y e n) ih = ih d w ls ks i
       go r (was-accepted o y a np nq) ih = turn d c o y a np nq w ls ks i L cs (ih (store O d (key c) y)) (kind c) refl
 
   -- ---- any run of calls, from a new desk
-  pub serialisation : (L : Laws O) (cs : List Call) → Served (newDesk O) (serial S (run O (newDesk O) cs))
-      (after O (newDesk O) cs)
+  pub serialisation : (L : Laws O) (cs : List Call) → Served (new_desk O) (serial S (run O (new_desk O) cs))
+      (after O (new_desk O) cs)
   unfolding serial bare
-  serialisation L cs = through L cs (newDesk O) (λ k. []) [] [] (record {
+  serialisation L cs = through L cs (new_desk O) (λ k. []) [] [] (record {
     tally = record {
       count = refl;
       below = omega arith;

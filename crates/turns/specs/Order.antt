@@ -5,27 +5,27 @@ use Rattle.turns.specs.Service.{refused, crowded, Service, Entry}
 use Rattle.turns.specs.Base.{keep}
 
 module _ (S : Service) where
-  open S use {Key, same, same_self, same-only, key, kind}
+  open S use {Key, same, same_self, same_only, key, kind}
 
   -- ---- the order: the accepted closings, looks and drops stand in the serial order as they stood in the run
   -- the calls that have a place of their own: accepted closings, looks and drops
-  abbrev pub standsAs : Mark → Kind → Bool
-  standsAs refused κ = false
-  standsAs crowded κ = false
-  standsAs accepted opening = false
-  standsAs accepted band = false
-  standsAs accepted closing = true
-  standsAs accepted abandoning = false
-  standsAs accepted looking = true
-  standsAs accepted changing = true
+  abbrev pub stands_as : Mark → Kind → Bool
+  stands_as refused κ = false
+  stands_as crowded κ = false
+  stands_as accepted opening = false
+  stands_as accepted band = false
+  stands_as accepted closing = true
+  stands_as accepted abandoning = false
+  stands_as accepted looking = true
+  stands_as accepted changing = true
 
   -- the calls of a list that have a place of their own
   unfoldable pub standing : List (Entry S) → List (Entry S)
   standing [] = []
-  standing (e ∷ es) = keep (standsAs e.mark (kind e.call)) e (standing es)
+  standing (e ∷ es) = keep (stands_as e.mark (kind e.call)) e (standing es)
 
   module _ (k : Key) where
     -- the calls of the key k
-    unfoldable pub ofKey : List (Entry S) → List (Entry S)
-    ofKey [] = []
-    ofKey (e ∷ es) = keep (same (key e.call) k) e (ofKey es)
+    unfoldable pub of_key : List (Entry S) → List (Entry S)
+    of_key [] = []
+    of_key (e ∷ es) = keep (same (key e.call) k) e (of_key es)

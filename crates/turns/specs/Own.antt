@@ -6,18 +6,18 @@ use Rattle.turns.specs.Base.{keep}
 
 -- A page's own calls are its open, its bands and its close or abandon; a look or drop of the same key is not one of
 -- them.
-abbrev pub ownKind : Kind → Bool
-ownKind opening = true
-ownKind band = true
-ownKind closing = true
-ownKind abandoning = true
-ownKind looking = false
-ownKind changing = false
+abbrev pub own_kind : Kind → Bool
+own_kind opening = true
+own_kind band = true
+own_kind closing = true
+own_kind abandoning = true
+own_kind looking = false
+own_kind changing = false
 
 module _ (S : Service) (k : S.Key) where
-  open S use {Key, same, same_self, same-only, key, kind}
+  open S use {Key, same, same_self, same_only, key, kind}
 
   -- the own calls of k's pages
   unfoldable pub own : List (Entry S) → List (Entry S)
   own [] = []
-  own (e ∷ es) = keep (same (key e.call) k && ownKind (kind e.call)) e (own es)
+  own (e ∷ es) = keep (same (key e.call) k && own_kind (kind e.call)) e (own es)

@@ -15,38 +15,38 @@ module _ (S : Service) where
   -- What waits after a call. A refused call changes nothing. An opening begins a page; a band joins its page;
   -- a closed page waits no more; an abandoned one is struck out with all its calls. A look or drop is no call of the
   -- page.
-  unfoldable pub waitsAs : Mark → Kind → Waiting → Entry S → Waiting
-  waitsAs refused κ w e = w
-  waitsAs crowded κ w e = w
-  waitsAs accepted opening w e = put (keys S) (key e.call) (e ∷ []) w
-  waitsAs accepted band w e = put (keys S) (key e.call) (w (key e.call) ++ (e ∷ [])) w
-  waitsAs accepted closing w e = put (keys S) (key e.call) [] w
-  waitsAs accepted abandoning w e = put (keys S) (key e.call) [] w
-  waitsAs accepted looking w e = w
-  waitsAs accepted changing w e = w
+  unfoldable pub waits_as : Mark → Kind → Waiting → Entry S → Waiting
+  waits_as refused κ w e = w
+  waits_as crowded κ w e = w
+  waits_as accepted opening w e = put (keys S) (key e.call) (e ∷ []) w
+  waits_as accepted band w e = put (keys S) (key e.call) (w (key e.call) ++ (e ∷ [])) w
+  waits_as accepted closing w e = put (keys S) (key e.call) [] w
+  waits_as accepted abandoning w e = put (keys S) (key e.call) [] w
+  waits_as accepted looking w e = w
+  waits_as accepted changing w e = w
 
   -- What is served in a call's place. At a closing the whole page, the closing last; a look or drop keeps its own
   -- place;
   -- nothing at a refused call; and a page that is never closed is never served.
-  unfoldable pub servesAs : Mark → Kind → Waiting → Entry S → List (Entry S)
-  servesAs refused κ w e = []
-  servesAs crowded κ w e = []
-  servesAs accepted opening w e = []
-  servesAs accepted band w e = []
-  servesAs accepted closing w e = w (key e.call) ++ (e ∷ [])
-  servesAs accepted abandoning w e = []
-  servesAs accepted looking w e = e ∷ []
-  servesAs accepted changing w e = e ∷ []
+  unfoldable pub serves_as : Mark → Kind → Waiting → Entry S → List (Entry S)
+  serves_as refused κ w e = []
+  serves_as crowded κ w e = []
+  serves_as accepted opening w e = []
+  serves_as accepted band w e = []
+  serves_as accepted closing w e = w (key e.call) ++ (e ∷ [])
+  serves_as accepted abandoning w e = []
+  serves_as accepted looking w e = e ∷ []
+  serves_as accepted changing w e = e ∷ []
 
   -- what is served of the calls to come, where these pages wait
-  unfoldable pub serialFrom : Waiting → List (Entry S) → List (Entry S)
-  serialFrom w [] = []
-  serialFrom w (e ∷ es) =
-      servesAs e.mark (kind e.call) w e ++ serialFrom (waitsAs e.mark (kind e.call) w e) es
+  unfoldable pub serial_from : Waiting → List (Entry S) → List (Entry S)
+  serial_from w [] = []
+  serial_from w (e ∷ es) =
+      serves_as e.mark (kind e.call) w e ++ serial_from (waits_as e.mark (kind e.call) w e) es
 
   -- what is left of a run, in the order in which it is served: at first nothing waits
   unfoldable pub serial : List (Entry S) → List (Entry S)
-  serial es = serialFrom (λ k. []) es
+  serial es = serial_from (λ k. []) es
 
   -- ---- What "one whole page at a time" means
   -- a page that is begun: an accepted opening and accepted bands, all of one key

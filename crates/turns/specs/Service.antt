@@ -15,7 +15,7 @@ pub record Keys : Type 1 where
   pub Key : Type 0
   pub same : Key → Key → Bool
   pub same_self : (k : Key) → same k k ≡ true
-  pub same-only : (j k : Key) → same j k ≡ true → j ≡ k
+  pub same_only : (j k : Key) → same j k ≡ true → j ≡ k
 
 -- What is asked and answered. A call holds its inputs and the lent buffer as it was; an output holds the answer and the
 -- lent buffer as it is then.
@@ -23,7 +23,7 @@ pub record Service : Type 1 where
   pub Key : Type 0
   pub same : Key → Key → Bool
   pub same_self : (k : Key) → same k k ≡ true
-  pub same-only : (j k : Key) → same j k ≡ true → j ≡ k
+  pub same_only : (j k : Key) → same j k ≡ true → j ≡ k
   pub Call : Type 0
   pub Output : Type 0
   pub key : Call → Key
@@ -31,7 +31,7 @@ pub record Service : Type 1 where
 
 -- the keys of a service
 abbrev pub keys : Service → Keys
-keys S = record { Key = S.Key; same = S.same; same_self = S.same_self; same-only = S.same-only }
+keys S = record { Key = S.Key; same = S.same; same_self = S.same_self; same_only = S.same_only }
 
 module _ (K : Keys) where
   open K use {Key, same}

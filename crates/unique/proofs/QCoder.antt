@@ -20,8 +20,8 @@ use Rattle.exact.proofs.Codes.{written, code-bytes}
 use Rattle.exact.specs.Sight.{Sight, opened, seek, decide, above, under, taken}
 use Rattle.exact.proofs.Reader.{Sees, sees-upper, sees-lower, sees-shifts, sees-start, expects, refuses, decide_true}
 use Rattle.exact.proofs.Reader.{decide-false}
-use Rattle.band.specs.Band.{qWriter}
-use Rattle.unique.specs.QCoder.{qReader}
+use Rattle.band.specs.Band.{q_writer}
+use Rattle.unique.specs.QCoder.{q_reader}
 
 -- ready: reached from the start by decisions of lawful sizes
 pub record Reached (w : Registers) : Type 0 where
@@ -120,8 +120,8 @@ module _ (q : ℕ) (w : Registers) (r : Sight) (c : List ℕ) (z : Sized q) (f :
   takes false i = sees-shifts 12 (under q r) (lower q w) (0 ∷ c) i.total (rest_part (decision q false) w (ready w f)
       (size q false z)) (sees-lower q r w (0 ∷ c) g) i.going
 
-pub qCoder : IsCoder qWriter qReader Sized
-qCoder =
+pub q_coder : IsCoder q_writer q_reader Sized
+q_coder =
     record {
       Ready = Reached;
       Ends = Ends;

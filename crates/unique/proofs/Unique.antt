@@ -13,7 +13,7 @@ use lib.ListN.{get_or, length, drop, length-take, length-drop, get_or-eq_default
 use lib.Seq.{ext_get_or, get_or-take, get_or-drop}
 use lib.Pow.{mod-pow-add}
 use borrow.Author.Tests.{eqb-true}
-use Rattle.template.specs.Pels.{rowBytes, pelAt, pelsTo, row_at, bandTo, rowPadded, bandPadded}
+use Rattle.template.specs.Pels.{row_bytes, pel_at, pels_to, row_at, band_to, row_padded, band_padded}
 use Rattle.template.proofs.Sliding.{pels-at}
 use Rattle.ground.proofs.Bools.{both}
 use Rattle.band.specs.Band.{written, IsBand}
@@ -66,24 +66,24 @@ clear-bit b (suc k) j e h =
     go (no l) f t = let e : j ≡ k = omega arith in rw e t
 
 -- ---- two rows of one width with the same pels are one
-module _ (width : ℕ) (a b : List ℕ) (some : 1 ≤ width) (la : length a ≡ rowBytes width)
-    (lb : length b ≡ rowBytes width) (oa : (i : ℕ) → get_or a i 0 ≤ 255) (ob : (i : ℕ) → get_or b i 0 ≤ 255)
-    (pa : rowPadded width a ≡ true) (pb : rowPadded width b ≡ true) (e : pelsTo a width ≡ pelsTo b width) where
-  same-pel : (x : ℕ) → x < width → pelAt a x ≡ pelAt b x
+module _ (width : ℕ) (a b : List ℕ) (some : 1 ≤ width) (la : length a ≡ row_bytes width)
+    (lb : length b ≡ row_bytes width) (oa : (i : ℕ) → get_or a i 0 ≤ 255) (ob : (i : ℕ) → get_or b i 0 ≤ 255)
+    (pa : row_padded width a ≡ true) (pb : row_padded width b ≡ true) (e : pels_to a width ≡ pels_to b width) where
+  same-pel : (x : ℕ) → x < width → pel_at a x ≡ pel_at b x
   same-pel x h = sym (pels-at a width x h) ∙ ap (λ (l : List ℕ). get_or l x 0) e ∙ pels-at b width x h
 
   -- past the width the bits are zero
-  padding : (l : List ℕ) → rowPadded width l ≡ true → (i j : ℕ) → i < rowBytes width → j < 8 → width ≤ 8 * i + j
+  padding : (l : List ℕ) → row_padded width l ≡ true → (i j : ℕ) → i < row_bytes width → j < 8 → width ≤ 8 * i + j
       → get_or l i 0 / 2 ^ (7 - j) % 2 ≡ 0
-  unfolding rowPadded
+  unfolding row_padded
   padding l p i j hi hj hw =
-      let z : get_or l (rowBytes width - 1) 0 % 2 ^ (8 * rowBytes width - width) ≡ 0 = eqb-true _ 0 p in
-      let n : i ≡ rowBytes width - 1 = omega arith in
-      ap (λ (k : ℕ). get_or l k 0 / 2 ^ (7 - j) % 2) n ∙ clear-bit (get_or l (rowBytes width - 1) 0)
-      (8 * rowBytes width - width) (7 - j) z (omega arith)
+      let z : get_or l (row_bytes width - 1) 0 % 2 ^ (8 * row_bytes width - width) ≡ 0 = eqb-true _ 0 p in
+      let n : i ≡ row_bytes width - 1 = omega arith in
+      ap (λ (k : ℕ). get_or l k 0 / 2 ^ (7 - j) % 2) n ∙ clear-bit (get_or l (row_bytes width - 1) 0)
+      (8 * row_bytes width - width) (7 - j) z (omega arith)
 
-  same_bit : (i j : ℕ) → i < rowBytes width → j < 8 → get_or a i 0 / 2 ^ (7 - j) % 2 ≡ get_or b i 0 / 2 ^ (7 - j) % 2
-  unfolding pelAt
+  same_bit : (i j : ℕ) → i < row_bytes width → j < 8 → get_or a i 0 / 2 ^ (7 - j) % 2 ≡ get_or b i 0 / 2 ^ (7 - j) % 2
+  unfolding pel_at
   same_bit i j hi hj = go (dec_lt (8 * i + j) width)
     where
       at : (8 * i + j) / 8 ≡ i
@@ -112,71 +112,71 @@ cut (x ∷ a) b (y ∷ c) d l e =
     (ap₂ (λ (z : ℕ) (m : List ℕ). z ∷ m) (ap (λ (m : List ℕ). get_or m 0 0) e) k.0, k.1)
 
 module _ (width rows : ℕ) (a b : List ℕ) (some : 1 ≤ width) (ia : IsBand width rows a) (ib : IsBand width rows b) where
-  rows-padded : (l : List ℕ) (n y : ℕ) → bandPadded width l n ≡ true → y < n → rowPadded width (row_at width l y) ≡ true
-  unfolding bandPadded
+  rows-padded : (l : List ℕ) (n y : ℕ) → band_padded width l n ≡ true → y < n → row_padded width (row_at width l y) ≡ true
+  unfolding band_padded
   rows-padded l zero y p h = absurd (omega arith)
   rows-padded l (suc n) y p h =
-      go (dec_lt y n) (λ k. rows-padded l n y (both (bandPadded width l n) (rowPadded width (row_at width l n)) p).0 k)
+      go (dec_lt y n) (λ k. rows-padded l n y (both (band_padded width l n) (row_padded width (row_at width l n)) p).0 k)
     where
-      go : Dec (y < n) → (y < n → rowPadded width (row_at width l y) ≡ true) → rowPadded width (row_at width l y) ≡ true
+      go : Dec (y < n) → (y < n → row_padded width (row_at width l y) ≡ true) → row_padded width (row_at width l y) ≡ true
       go (yes k) f = f k
       go (no k) f = let e : y ≡ n = omega arith in
-          rw e (both (bandPadded width l n) (rowPadded width (row_at width l n)) p).1
+          rw e (both (band_padded width l n) (row_padded width (row_at width l n)) p).1
 
-  row-pels : (n y : ℕ) → bandTo width a n ≡ bandTo width b n → y < n → pelsTo (row_at width a y) width ≡ pelsTo
+  row-pels : (n y : ℕ) → band_to width a n ≡ band_to width b n → y < n → pels_to (row_at width a y) width ≡ pels_to
       (row_at width b y) width
-  unfolding bandTo
+  unfolding band_to
   row-pels zero y e h = absurd (omega arith)
   row-pels (suc n) y e h =
-      let k = cut (bandTo width a n) (pelsTo (row_at width a n) width) (bandTo width b n)
-      (pelsTo (row_at width b n) width) (band-size width a n ∙ sym (band-size width b n)) e in
+      let k = cut (band_to width a n) (pels_to (row_at width a n) width) (band_to width b n)
+      (pels_to (row_at width b n) width) (band-size width a n ∙ sym (band-size width b n)) e in
       go k (dec_lt y n) (λ l. row-pels n y k.0 l)
     where
-      go : (bandTo width a n ≡ bandTo width b n) × (pelsTo (row_at width a n) width ≡ pelsTo (row_at width b n) width)
+      go : (band_to width a n ≡ band_to width b n) × (pels_to (row_at width a n) width ≡ pels_to (row_at width b n) width)
           → Dec (y < n)
-          → (y < n → pelsTo (row_at width a y) width ≡ pelsTo (row_at width b y) width) → pelsTo (row_at width a y) width
-          ≡ pelsTo (row_at width b y) width
+          → (y < n → pels_to (row_at width a y) width ≡ pels_to (row_at width b y) width) → pels_to (row_at width a y) width
+          ≡ pels_to (row_at width b y) width
       go k (yes l) f = f l
       go k (no l) f = let e : y ≡ n = omega arith in rw e k.1
 
-  row-size : (l : List ℕ) (y : ℕ) → length l ≡ rows * rowBytes width → y < rows → length (row_at width l y)
-      ≡ rowBytes width
+  row-size : (l : List ℕ) (y : ℕ) → length l ≡ rows * row_bytes width → y < rows → length (row_at width l y)
+      ≡ row_bytes width
   row-size l y s h =
-      let p : suc y * rowBytes width ≤ rows * rowBytes width = mul-le-mul_right (rowBytes width) h in
-      length-take (rowBytes width) (drop (y * rowBytes width) l) ∙ ap (min (rowBytes width))
-      (length-drop (y * rowBytes width) l) ∙ omega (arith, suc-mul y (rowBytes width))
+      let p : suc y * row_bytes width ≤ rows * row_bytes width = mul-le-mul_right (row_bytes width) h in
+      length-take (row_bytes width) (drop (y * row_bytes width) l) ∙ ap (min (row_bytes width))
+      (length-drop (y * row_bytes width) l) ∙ omega (arith, suc-mul y (row_bytes width))
 
   row-octets : (l : List ℕ) (y : ℕ) → ((i : ℕ) → get_or l i 0 ≤ 255) → (i : ℕ) → get_or (row_at width l y) i 0 ≤ 255
-  row-octets l y o i = go (dec_lt i (rowBytes width))
+  row-octets l y o i = go (dec_lt i (row_bytes width))
     where
-      go : Dec (i < rowBytes width) → get_or (row_at width l y) i 0 ≤ 255
+      go : Dec (i < row_bytes width) → get_or (row_at width l y) i 0 ≤ 255
       go (yes h) = rw (
-        get_or-take (rowBytes width) (drop (y * rowBytes width) l) i 0 h,
-        get_or-drop (y * rowBytes width) l
+        get_or-take (row_bytes width) (drop (y * row_bytes width) l) i 0 h,
+        get_or-drop (y * row_bytes width) l
             i 0,
-      ) (o (y * rowBytes width + i))
+      ) (o (y * row_bytes width + i))
       go (no h) = rw (get_or-eq_default (row_at width l y) 0 {n = i}
-          (rw (length-take (rowBytes width) (drop (y * rowBytes width) l)) (omega arith))) (omega arith)
+          (rw (length-take (row_bytes width) (drop (y * row_bytes width) l)) (omega arith))) (omega arith)
 
-  same_rows : bandTo width a rows ≡ bandTo width b rows → (y : ℕ) → y < rows → row_at width a y ≡ row_at width b y
+  same_rows : band_to width a rows ≡ band_to width b rows → (y : ℕ) → y < rows → row_at width a y ≡ row_at width b y
   same_rows e y h =
       same_row width (row_at width a y) (row_at width b y) some (row-size a y ia.size h) (row-size b y ib.size h)
       (row-octets a y ia.octets) (row-octets b y ib.octets)
       (rows-padded a rows y ia.padded h) (rows-padded b rows y ib.padded h) (row-pels rows y e h)
 
   -- a byte of a band stands in one of its rows
-  in_row : (l : List ℕ) (i : ℕ) → get_or l i 0 ≡ get_or (row_at width l (i / rowBytes width)) (i % rowBytes width) 0
+  in_row : (l : List ℕ) (i : ℕ) → get_or l i 0 ≡ get_or (row_at width l (i / row_bytes width)) (i % row_bytes width) 0
   in_row l i =
-      let n : ℕ = rowBytes width in
+      let n : ℕ = row_bytes width in
       let h : i % n < n = mod-lt i (omega arith) in
       sym (get_or-take n (drop (i / n * n) l) (i % n) 0 h ∙ get_or-drop (i / n * n) l (i % n) 0
       ∙ ap (λ (k : ℕ). get_or l k 0) (div-add-mod' i n))
 
-  pub same-band : bandTo width a rows ≡ bandTo width b rows → a ≡ b
+  pub same-band : band_to width a rows ≡ band_to width b rows → a ≡ b
   same-band e =
       ext_get_or 0 a b (ia.size ∙ sym ib.size)
-      (λ i h. in_row a i ∙ ap (λ (l : List ℕ). get_or l (i % rowBytes width) 0) (same_rows e (i / rowBytes width)
-      ((div-lt_iff_lt-mul {k = rowBytes width} {x = i} {y = rows} (omega arith)).1 (omega (arith, ia.size, h))))
+      (λ i h. in_row a i ∙ ap (λ (l : List ℕ). get_or l (i % row_bytes width) 0) (same_rows e (i / row_bytes width)
+      ((div-lt_iff_lt-mul {k = row_bytes width} {x = i} {y = rows} (omega arith)).1 (omega (arith, ia.size, h))))
       ∙ sym (in_row b i))
 
 -- no two bands of one size have one code, from one table and last row

@@ -8,13 +8,13 @@ use mathlib.Core.List.{List, [], ◌∷◌, ◌++◌}
 use lib.ListN.{length, drop, get_or, replicate, length-append, length-replicate}
 use lib.Dec.{ltb, eqb}
 use Rattle.ground.proofs.Tests.{by-cond₂}
-use Rattle.coder.specs.Reading.{readPels, pelOf}
+use Rattle.coder.specs.Reading.{read_pels, pel_of}
 use Rattle.coder.specs.Page.{Page, size, sense, move}
 use Rattle.octets.specs.Octets.{bits}
 use Rattle.exact.specs.Sight.{Sight, opened, more, nearer, supplied, seek, decide, taken}
-use Rattle.template.specs.Pels.{bandTo}
-use Rattle.band.specs.Band.{qScheme, qPage, pageAt, written}
-use Rattle.unique.specs.QCoder.{qReader}
+use Rattle.template.specs.Pels.{band_to}
+use Rattle.band.specs.Band.{q_scheme, q_page, page_at, written}
+use Rattle.unique.specs.QCoder.{q_reader}
 use Rattle.unique.proofs.BandPels.{reads-written, code-of-pels}
 
 -- the same bytes, where past the end a byte is 0
@@ -99,22 +99,22 @@ moves-alike q false r us = refl
 -- ---- it reads the same pels
 module _ (width : ℕ) where
   abbrev reads : ℕ → Page → Sight → List ℕ
-  reads n m r = readPels (qPage width) qReader n m r
+  reads n m r = read_pels (q_page width) q_reader n m r
 
   reads-alike : (n : ℕ) (m : Page) (r : Sight) (us : List ℕ) → Same r.unread us → reads n m (seen r us)
       ≡ reads n m r
-  unfolding readPels decide
+  unfolding read_pels decide
   reads-alike zero m r us h = refl
   reads-alike (suc n) m r us h =
-      let q : ℕ = size qScheme width m in
+      let q : ℕ = size q_scheme width m in
       let e : Bool = decide q r in
-      let p : ℕ = pelOf (sense qScheme width m) e in
+      let p : ℕ = pel_of (sense q_scheme width m) e in
       let a = alike-taken q e r us h in
       ap (λ (l : List ℕ). p ∷ l)
-      (ap (λ (k : ℕ). reads n (move qScheme width m p (ltb k 0x1000)) (seek 12 (taken q e (seen r us))))
+      (ap (λ (k : ℕ). reads n (move q_scheme width m p (ltb k 0x1000)) (seek 12 (taken q e (seen r us))))
       (moves-alike q e r us)
-      ∙ ap (reads n (move qScheme width m p (ltb (taken q e r).width 0x1000))) a.is
-      ∙ reads-alike n (move qScheme width m p (ltb (taken q e r).width 0x1000)) (seek 12 (taken q e r)) a.unread
+      ∙ ap (reads n (move q_scheme width m p (ltb (taken q e r).width 0x1000))) a.is
+      ∙ reads-alike n (move q_scheme width m p (ltb (taken q e r).width 0x1000)) (seek 12 (taken q e r)) a.unread
       a.same)
 
   opened-alike : (c d : List ℕ) → Same c d → Alike (opened d) (opened c)
@@ -144,10 +144,10 @@ pub end-told : (width rows : ℕ) (table last a b c : List ℕ) (m n : ℕ)
     → (written width rows table last b).code ≡ c ++ replicate n 0 → m ≡ n
 end-told width rows table last a b c m n ea eb =
     let k : ℕ = rows * width in
-    let pg : Page = pageAt width table last in
+    let pg : Page = page_at width table last in
     let pa = reads-written width rows table last (c ++ replicate m 0) a ea in
     let pb = reads-written width rows table last (c ++ replicate n 0) b eb in
-    let same : bandTo width a rows ≡ bandTo width b rows =
+    let same : band_to width a rows ≡ band_to width b rows =
     sym pa ∙ zeros-unread width k m pg c ∙ sym (zeros-unread width k n pg c) ∙ pb in
     let e : c ++ replicate m 0 ≡ c ++ replicate n 0 =
     sym ea ∙ code-of-pels width rows table last a b same ∙ eb in

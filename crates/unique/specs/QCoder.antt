@@ -5,8 +5,8 @@ use Rattle.octets.specs.Octets.{start}
 use Rattle.exact.specs.Sight.{Sight, opened, seek, decide, taken}
 
 -- the reader: its decision, and the shifts after it
-abbrev pub qReader : Reader
-qReader = record {
+abbrev pub q_reader : Reader
+q_reader = record {
   State = Sight;
   start = opened;
   ask = decide;

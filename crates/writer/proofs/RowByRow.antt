@@ -11,7 +11,7 @@ use lib.Dec.{leb}
 use Rattle.ground.proofs.Bools.{both}
 use Rattle.coder.specs.Page.{Page}
 use borrow.Author.Tests.{leb-true}
-use Rattle.engine.specs.Coded.{rowPage, Stored}
+use Rattle.engine.specs.Coded.{row_page, Stored}
 use Rattle.engine.proofs.Coded.{coded-revisits, stored-none, stored-append, stored-length}
 use Rattle.engine.proofs.Verdict as end
 use Rattle.estimate.specs.declared.Table.{Table}
@@ -21,66 +21,66 @@ use Rattle.octets.specs.Octets.{Registers, start, finish, ended}
 use Rattle.octets.specs.Fit.{Ready}
 use Rattle.octets.specs.Lift.{lift}
 use Rattle.octets.proofs.Fit.{ready-start}
-use Rattle.store.specs.Store.{stores, inFront, cleared}
+use Rattle.store.specs.Store.{stores, in_front, cleared}
 use Rattle.store.proofs.Store.{stores-append, stores-fit, length-stores}
-use Rattle.template.specs.Pels.{pelsTo, row_at, rowBytes, bandTo}
+use Rattle.template.specs.Pels.{pels_to, row_at, row_bytes, band_to}
 use Rattle.row.specs.declared.Run.{Run}
-use Rattle.row.specs.QEngine.{qEngine}
+use Rattle.row.specs.QEngine.{q_engine}
 use Rattle.row.specs.WrittenRow.{RowDone}
-use Rattle.row.proofs.QEngine.{qIsEngine}
-use Rattle.limits.specs.Limits.{maxWidth, maxRows, maxCode, lastBytes, maxBand}
-use Rattle.band.specs.Band.{pageAt, Written, written, lastRow, hasRoom}
+use Rattle.row.proofs.QEngine.{q_is_engine}
+use Rattle.limits.specs.Limits.{max_width, max_rows, max_code, last_bytes, max_band}
+use Rattle.band.specs.Band.{page_at, Written, written, last_row, has_room}
 use Rattle.band.proofs.Revisits.{band-size}
-use Rattle.writer.specs.Wrote.{wroteAnswer, wroteOut}
+use Rattle.writer.specs.Wrote.{wrote_answer, wrote_out}
 use Rattle.writer.specs.RowByRow.{BandAt}
 
 -- ---- rows
 module _ (width : ℕ) (last band t₀ out₀ : List ℕ) where
   band-start : (c : Coder) → lift c [] ≡ start → LawfulTable t₀ → BandAt width last band t₀ out₀ last t₀ c out₀ 0 0 0
-  unfolding bandTo
+  unfolding band_to
   band-start c e l =
       record {
         from = c;
         first = e;
-        done = stored-none qEngine qIsEngine width (pageAt width t₀ last) c 0 out₀ 0 l
+        done = stored-none q_engine q_is_engine width (page_at width t₀ last) c 0 out₀ 0 l
             (subst Ready (sym e) ready-start);
       }
 
   -- one row more
   pub band-again : (above t : List ℕ) (c : Coder) (out : List ℕ) (at n y : ℕ) (row t' : List ℕ) (c' : Coder)
       (out' : List ℕ) (at' n' : ℕ) → BandAt width last band t₀ out₀ above t c out at n y → row ≡ row_at width band y
-      → RowDone width (pelsTo above width) row t c out at n t' c' out' at' n'
+      → RowDone width (pels_to above width) row t c out at n t' c' out' at' n'
       → BandAt width last band t₀ out₀ row t' c' out' at' n' (suc y)
-  unfolding bandTo
+  unfolding band_to
   band-again above t c out at n y row t' c' out' at' n' b e r =
       record {
         from = b.from;
         first = b.first;
-        done = subst (λ (l : List ℕ). Stored qEngine width (pageAt width t₀ last) b.from 0 out₀ 0
-            (bandTo width band y ++ pelsTo l width) (rowPage t' (pelsTo row width)) c' n' out' at') e
-            (stored-append qEngine qIsEngine width _ b.from 0 out₀ 0 (bandTo width band y) _ c n out at
-            (pelsTo row width) _ c' n' out' at' b.done r);
+        done = subst (λ (l : List ℕ). Stored q_engine width (page_at width t₀ last) b.from 0 out₀ 0
+            (band_to width band y ++ pels_to l width) (row_page t' (pels_to row width)) c' n' out' at') e
+            (stored-append q_engine q_is_engine width _ b.from 0 out₀ 0 (band_to width band y) _ c n out at
+            (pels_to row width) _ c' n' out' at' b.done r);
       }
 
 -- the numbers in the loop over the rows
 module _ (width : ℕ) (last band t₀ out₀ above t : List ℕ) (c : Coder) (out : List ℕ) (at n y : ℕ)
     (b : BandAt width last band t₀ out₀ above t c out at n y) where
   pub band-length : length out ≡ length out₀
-  band-length = stored-length qEngine qIsEngine width _ b.from 0 out₀ 0 _ _ c n out at b.done
+  band-length = stored-length q_engine q_is_engine width _ b.from 0 out₀ 0 _ _ c n out at b.done
 
-  pub band-few : width ≤ maxWidth → (c.interval.count ≤ 12 * maxWidth * y) × (at ≤ 2 * maxWidth * y)
+  pub band-few : width ≤ max_width → (c.interval.count ≤ 12 * max_width * y) × (at ≤ 2 * max_width * y)
       × (n ≤ c.interval.count)
   band-few h =
-      let k : y * width ≤ y * maxWidth = mul-le-mul_left y h in
+      let k : y * width ≤ y * max_width = mul-le-mul_left y h in
       let z : b.from.interval.count ≡ 0 = ap (λ (w : Registers). w.interval.count) b.first in
-      let l : length (bandTo width band y) ≡ y * width = band-size width band y in (
+      let l : length (band_to width band y) ≡ y * width = band-size width band y in (
         omega (arith, b.done.coded.count),
         omega (arith, b.done.place, b.done.coded.few),
-        coded-revisits qEngine qIsEngine width _ b.from 0 _ _ c n _ b.done.coded (omega arith),
+        coded-revisits q_engine q_is_engine width _ b.from 0 _ _ c n _ b.done.coded (omega arith),
       )
 
 -- ---- the end of a band
-written_last : (width rows : ℕ) (t last band : List ℕ) → (written width rows t last band).last ≡ lastRow width rows band
+written_last : (width rows : ℕ) (t last band : List ℕ) → (written width rows t last band).last ≡ last_row width rows band
 unfolding written
 written_last width rows t last band = refl
 
@@ -96,21 +96,21 @@ module _ (width rows : ℕ) (last band t₀ out₀ above t : List ℕ) (c : Code
 
   end-code : W.code ≡ drop 1 all
   unfolding written
-  end-code = end.end-code qEngine qIsEngine width _ b.from _ _ c n _ b.first b.done.coded
+  end-code = end.end-code q_engine q_is_engine width _ b.from _ _ c n _ b.first b.done.coded
       ∙ ap (λ (l : List ℕ). drop 1 (b.done.settled ++ l)) (sym e)
 
   end-shifts : W.shifts ≡ c.interval.count
   unfolding written
-  end-shifts = end.end-shifts qEngine qIsEngine width _ b.from _ _ c n _ b.first b.done.coded
+  end-shifts = end.end-shifts q_engine q_is_engine width _ b.from _ _ c n _ b.first b.done.coded
 
   end-revisits : W.revisits ≡ n
   unfolding written
-  end-revisits = end.end-revisits qEngine qIsEngine width _ b.from _ _ c n _ b.first b.done.coded
+  end-revisits = end.end-revisits q_engine q_is_engine width _ b.from _ _ c n _ b.first b.done.coded
 
   end-table : W.table ≡ t
   unfolding written
   end-table = ap (λ (m : Page). m.table)
-      (end.end-model qEngine qIsEngine width _ b.from _ _ c n _ b.first b.done.coded)
+      (end.end-model q_engine q_is_engine width _ b.from _ _ c n _ b.first b.done.coded)
 
   -- the last bytes are stored: n₁ in all
   module _ (out₁ : List ℕ) (n₁ : ℕ) (stored : out₁ ≡ stores out at lasts) (place : n₁ ≡ at + length lasts) where
@@ -126,12 +126,12 @@ module _ (width rows : ℕ) (last band t₀ out₀ above t : List ℕ) (c : Code
     end_same : length out₁ ≡ length out₀
     end_same = ap length end-stored ∙ length-stores out₀ 0 all
 
-    room-is : hasRoom W.code out₀ ≡ (leb (n₁ - 1) (length out₁) && leb (n₁ - 1) maxCode)
-    unfolding hasRoom
+    room-is : has_room W.code out₀ ≡ (leb (n₁ - 1) (length out₁) && leb (n₁ - 1) max_code)
+    unfolding has_room
     room-is = rw (end-length, end_same)
 
-    pub with-room : (leb (n₁ - 1) (length out₁) && leb (n₁ - 1) maxCode) ≡ true → (table : Table) (row : List ℕ)
-        → row ≡ lastRow width rows band
+    pub with-room : (leb (n₁ - 1) (length out₁) && leb (n₁ - 1) max_code) ≡ true → (table : Table) (row : List ℕ)
+        → row ≡ last_row width rows band
         → (record {
           room = true;
           length = n₁ - 1;
@@ -139,10 +139,10 @@ module _ (width rows : ℕ) (last band t₀ out₀ above t : List ℕ) (c : Code
           revisits = n;
           table = record { entries = t };
           last = row;
-        } ≡ wroteAnswer W table last out₀) × (out₁ ≡ wroteOut W out₀)
-    unfolding wroteAnswer wroteOut
+        } ≡ wrote_answer W table last out₀) × (out₁ ≡ wrote_out W out₀)
+    unfolding wrote_answer wrote_out
     with-room h table row r =
-        let k : hasRoom W.code out₀ ≡ true = room-is ∙ h in (
+        let k : has_room W.code out₀ ≡ true = room-is ∙ h in (
           rw k (λ i. record {
             room = true;
             length = end-length i;
@@ -153,26 +153,26 @@ module _ (width rows : ℕ) (last band t₀ out₀ above t : List ℕ) (c : Code
           }),
           rw k (end-stored ∙ stores-fit out₀ all (subst (λ (x : ℕ). x ≤ length out₀) (end-length ∙ ap length end-code)
               (omega (arith, end_same, leb-true (n₁ - 1) (length out₁) (left-of h))))
-              ∙ ap (λ (x : List ℕ). inFront x out₀) (sym end-code)),
+              ∙ ap (λ (x : List ℕ). in_front x out₀) (sym end-code)),
         )
       where
-        last-is : row ≡ lastRow width rows band → row ≡ W.last
+        last-is : row ≡ last_row width rows band → row ≡ W.last
         last-is r = r ∙ sym (written_last width rows t₀ last band)
 
-        left-of : (leb (n₁ - 1) (length out₁) && leb (n₁ - 1) maxCode) ≡ true → leb (n₁ - 1) (length out₁) ≡ true
-        left-of h = (both (leb (n₁ - 1) (length out₁)) (leb (n₁ - 1) maxCode) h).0
+        left-of : (leb (n₁ - 1) (length out₁) && leb (n₁ - 1) max_code) ≡ true → leb (n₁ - 1) (length out₁) ≡ true
+        left-of h = (both (leb (n₁ - 1) (length out₁)) (leb (n₁ - 1) max_code) h).0
 
-    pub without-room : (leb (n₁ - 1) (length out₁) && leb (n₁ - 1) maxCode) ≡ false → (table : Table)
+    pub without-room : (leb (n₁ - 1) (length out₁) && leb (n₁ - 1) max_code) ≡ false → (table : Table)
         → (record { room = false; length = 0; shifts = 0; revisits = 0; table = table; last = last }
-        ≡ wroteAnswer W table last out₀)
-        × (cleared out₁ ≡ wroteOut W out₀)
-    unfolding wroteAnswer wroteOut cleared
-    without-room h table = let k : hasRoom W.code out₀ ≡ false = room-is ∙ h in (rw k, rw (k, end_same))
+        ≡ wrote_answer W table last out₀)
+        × (cleared out₁ ≡ wrote_out W out₀)
+    unfolding wrote_answer wrote_out cleared
+    without-room h table = let k : has_room W.code out₀ ≡ false = room-is ∙ h in (rw k, rw (k, end_same))
 
 -- ---- the rows as parts of a band
-module _ (width : ℕ) (band : List ℕ) (bytes' : ℕ) (is : bytes' ≡ rowBytes width) where
+module _ (width : ℕ) (band : List ℕ) (bytes' : ℕ) (is : bytes' ≡ row_bytes width) where
   row_first : take bytes' band ≡ row_at width band 0
-  row_first = ap₂ (λ (n m : ℕ). take n (drop m band)) is (sym (zero-mul (rowBytes width)))
+  row_first = ap₂ (λ (n m : ℕ). take n (drop m band)) is (sym (zero-mul (row_bytes width)))
 
   part_at : (n m y : ℕ) → n ≡ bytes' → m ≡ y * bytes' → take n (drop m band) ≡ row_at width band y
   part_at n m y e f = ap₂ (λ (a b : ℕ). take a (drop b band)) (e ∙ is) (f ∙ ap (λ (a : ℕ). y * a) is)
@@ -192,31 +192,31 @@ module _ (width : ℕ) (band : List ℕ) (bytes' : ℕ) (is : bytes' ≡ rowByte
   row_before y from h e =
       part_at (from - (from - bytes')) (from - bytes') (y - 1) (omega (arith, split y h)) (omega (arith, split y h))
 
-  pub rows_fit : (rows y : ℕ) → y < rows → rows ≤ maxRows → width ≤ maxWidth → length band ≡ rows * rowBytes width
-      → (y * bytes' + bytes' ≤ length band) × (length band ≤ maxBand)
-  rows_fit rows y h k w l =
+  pub rows_fit_lem : (rows y : ℕ) → y < rows → rows ≤ max_rows → width ≤ max_width → length band ≡ rows * row_bytes width
+      → (y * bytes' + bytes' ≤ length band) × (length band ≤ max_band)
+  rows_fit_lem rows y h k w l =
       let p : length band ≡ rows * bytes' = l ∙ ap (λ (n : ℕ). rows * n) (sym is) in
       let q : suc y * bytes' ≤ rows * bytes' = mul-le-mul_right bytes' h in
-      let r : rows * bytes' ≤ maxRows * bytes' = mul-le-mul_right bytes' k in
+      let r : rows * bytes' ≤ max_rows * bytes' = mul-le-mul_right bytes' k in
       (omega (arith, suc-mul y bytes'), omega arith)
 
-pub row_inside : (width : ℕ) (band : List ℕ) (rows y : ℕ) → y < rows → length band ≡ rows * rowBytes width
-    → y * rowBytes width + rowBytes width ≤ length band
+pub row_inside : (width : ℕ) (band : List ℕ) (rows y : ℕ) → y < rows → length band ≡ rows * row_bytes width
+    → y * row_bytes width + row_bytes width ≤ length band
 row_inside width band rows y h l =
-    let q : suc y * rowBytes width ≤ rows * rowBytes width = mul-le-mul_right (rowBytes width) h in
-    omega (arith, suc-mul y (rowBytes width), l)
+    let q : suc y * row_bytes width ≤ rows * row_bytes width = mul-le-mul_right (row_bytes width) h in
+    omega (arith, suc-mul y (row_bytes width), l)
 
 pub record Sizes (y bytes' len : ℕ) : Type 0 where
   pub inside : y * bytes' + bytes' ≤ len
   pub least : bytes' ≤ y * bytes'
-  pub few : y * bytes' ≤ maxBand
-  pub narrow : bytes' ≤ lastBytes
+  pub few : y * bytes' ≤ max_band
+  pub narrow : bytes' ≤ last_bytes
 
-pub sizes : (width y bytes' len : ℕ) → bytes' ≡ rowBytes width → width ≤ maxWidth → 1 ≤ y → y < maxRows
-    → y * rowBytes width + rowBytes width ≤ len → Sizes y bytes' len
+pub sizes : (width y bytes' len : ℕ) → bytes' ≡ row_bytes width → width ≤ max_width → 1 ≤ y → y < max_rows
+    → y * row_bytes width + row_bytes width ≤ len → Sizes y bytes' len
 sizes width y bytes' len is w h k l =
-    let m : y * bytes' ≡ y * rowBytes width = ap (λ (n : ℕ). y * n) is in
-    let f : y * bytes' ≤ maxRows * bytes' = mul-le-mul_right bytes' (omega arith) in
+    let m : y * bytes' ≡ y * row_bytes width = ap (λ (n : ℕ). y * n) is in
+    let f : y * bytes' ≤ max_rows * bytes' = mul-le-mul_right bytes' (omega arith) in
     record {
       inside = omega arith;
       least = omega (arith, mul-le-mul_right bytes' h);
@@ -225,19 +225,19 @@ sizes width y bytes' len is w h k l =
     }
 
 -- a part of that many bytes is wide enough
-pub part-wide : (width bytes' n m : ℕ) (band : List ℕ) → bytes' ≡ rowBytes width → n ≡ bytes'
+pub part-wide : (width bytes' n m : ℕ) (band : List ℕ) → bytes' ≡ row_bytes width → n ≡ bytes'
     → m + bytes' ≤ length band → width ≤ 8 * length (take n (drop m band))
 part-wide width bytes' n m band is e h = simp (length-take, length-drop) (omega arith)
 
 -- the first row, under the page's last
 pub band-first : (width : ℕ) (last band t₀ out₀ : List ℕ) (bytes' : ℕ) (c : Coder) (t' : List ℕ) (c' : Coder)
-    (out' : List ℕ) (at' n' : ℕ) → bytes' ≡ rowBytes width → lift c [] ≡ start → LawfulTable t₀
-    → RowDone width (pelsTo last width) (take bytes' band) t₀ c out₀ 0 0 t' c' out' at' n'
+    (out' : List ℕ) (at' n' : ℕ) → bytes' ≡ row_bytes width → lift c [] ≡ start → LawfulTable t₀
+    → RowDone width (pels_to last width) (take bytes' band) t₀ c out₀ 0 0 t' c' out' at' n'
     → BandAt width last band t₀ out₀ (row_at width band 0) t' c' out' at' n' 1
 band-first width last band t₀ out₀ bytes' c t' c' out' at' n' is s l r =
     band-again width last band t₀ out₀ last t₀ c out₀ 0 0 0 (row_at width band 0) t' c' out' at' n'
     (band-start width last band t₀ out₀ c s l) refl
-    (subst (λ (x : List ℕ). RowDone width (pelsTo last width) x t₀ c out₀ 0 0 t' c' out' at' n')
+    (subst (λ (x : List ℕ). RowDone width (pels_to last width) x t₀ c out₀ 0 0 t' c' out' at' n')
     (row_first width band bytes' is) r)
 
 pub start-count : (c : Coder) → lift c [] ≡ start → c.interval.count ≡ 0
@@ -254,7 +254,7 @@ RowsKeep width band run₀ out₀ run out y =
 -- the row n is written, under the row before it
 abbrev pub NextDone : ℕ → List ℕ → Run → List ℕ → Run → List ℕ → ℕ → Type 0
 NextDone width band run out run' out' n =
-    RowDone width (pelsTo (row_at width band (n - 1)) width) (row_at width band n) run.table.entries run.coder
+    RowDone width (pels_to (row_at width band (n - 1)) width) (row_at width band n) run.table.entries run.coder
     out run.at run.revisits run'.table.entries run'.coder out' run'.at run'.revisits
 
 -- one row more: k is the row that is due

@@ -3,9 +3,9 @@ ghost use Rattle.std.specs.Prelude.{◌≡◌, [], ◌+◌, ◌-◌, ◌*◌, �
 ghost use Rattle.estimate.specs.Estimate.{LawfulTable};
 ghost use Rattle.octets.specs.Fit.{Ready};
 ghost use Rattle.octets.specs.Lift.{lift};
-ghost use Rattle.template.specs.Pels.{pelsTo, row_at, rowBytes};
-ghost use Rattle.limits.specs.Limits.{maxWidth, maxRows, maxCode, farthest, maxShifts};
-ghost use Rattle.band.specs.Band.{lastRow};
+ghost use Rattle.template.specs.Pels.{pels_to, row_at, row_bytes};
+ghost use Rattle.limits.specs.Limits.{max_width, max_rows, max_code, farthest, max_shifts};
+ghost use Rattle.band.specs.Band.{last_row};
 ghost use Rattle.writer.specs.Wrote.{BandWrote};
 ghost use Rattle.row.specs.WrittenRow.{RowDone};
 ghost use Rattle.writer.specs.RowByRow.{BandAt};
@@ -33,11 +33,11 @@ const TOP: bool = true;
 // The first row of a band, under the page's last row, by the second engine or the first. Both this and `write_next` ask
 // which it is: were it asked in one function for both, each row would copy its start, table and all, once more.
 fn write_first(row: &[u8], above: &[u8], width: usize, run: Run, out: &mut [u8], top: bool) -> Run
-    requires { (width ≤ maxWidth) × (width ≤ 8 * length row.now) × (width ≤ 8 * length above.now) × (1 ≤ width)
+    requires { (width ≤ max_width) × (width ≤ 8 * length row.now) × (width ≤ 8 * length above.now) × (1 ≤ width)
         × LawfulTable run.table.entries × Ready (lift run.coder [])
-        × (run.coder.interval.count + 12 * maxWidth ≤ maxShifts) × (run.at + 2 * maxWidth ≤ farthest)
+        × (run.coder.interval.count + 12 * max_width ≤ max_shifts) × (run.at + 2 * max_width ≤ farthest)
         × (run.revisits ≤ run.coder.interval.count) }
-    ensures { RowDone width (pelsTo above.now width) row.now run.table.entries
+    ensures { RowDone width (pels_to above.now width) row.now run.table.entries
         run.coder out.old run.at run.revisits result.table.entries result.coder out.new
         result.at result.revisits }
 {
@@ -49,12 +49,12 @@ fn write_first(row: &[u8], above: &[u8], width: usize, run: Run, out: &mut [u8],
 
 // The row y of a band, under the row before it.
 pub fn write_next(pels: &[u8], y: usize, width: usize, run: Run, out: &mut [u8], top: bool) -> Run
-    requires { (1 ≤ width) × (width ≤ maxWidth) × (1 ≤ y) × (y < maxRows)
-        × (y * rowBytes width + rowBytes width ≤ length pels.now)
+    requires { (1 ≤ width) × (width ≤ max_width) × (1 ≤ y) × (y < max_rows)
+        × (y * row_bytes width + row_bytes width ≤ length pels.now)
         × LawfulTable run.table.entries × Ready (lift run.coder [])
-        × (run.coder.interval.count + 12 * maxWidth ≤ maxShifts) × (run.at + 2 * maxWidth ≤ farthest)
+        × (run.coder.interval.count + 12 * max_width ≤ max_shifts) × (run.at + 2 * max_width ≤ farthest)
         × (run.revisits ≤ run.coder.interval.count) }
-    ensures { RowDone width (pelsTo (row_at width pels.now (y - 1)) width)
+    ensures { RowDone width (pels_to (row_at width pels.now (y - 1)) width)
         (row_at width pels.now y) run.table.entries run.coder out.old run.at
         run.revisits result.table.entries result.coder out.new result.at result.revisits }
 {
@@ -78,8 +78,8 @@ pub fn write_rows(
     out: &mut [u8],
     top: bool,
 ) -> Run
-    requires { (1 ≤ width) × (width ≤ maxWidth) × (1 ≤ rows) × (rows ≤ maxRows)
-        × (length pels.now ≡ rows * rowBytes width)
+    requires { (1 ≤ width) × (width ≤ max_width) × (1 ≤ rows) × (rows ≤ max_rows)
+        × (length pels.now ≡ rows * row_bytes width)
         × LawfulTable table.entries }
     ensures { BandAt width last pels.now table.entries out.old
         (row_at width pels.now (rows - 1)) result.table.entries result.coder out.new result.at
@@ -104,9 +104,9 @@ pub fn write_rows(
 
 // The last row of a band, in the room that a page has for it.
 pub fn last_row(pels: &[u8], width: usize, rows: usize) -> [u8; ROW]
-    requires { (1 ≤ width) × (width ≤ maxWidth) × (1 ≤ rows) × (rows ≤ maxRows)
-        × (length pels.now ≡ rows * rowBytes width) }
-    ensures { result ≡ lastRow width rows pels.now }
+    requires { (1 ≤ width) × (width ≤ max_width) × (1 ≤ rows) × (rows ≤ max_rows)
+        × (length pels.now ≡ rows * row_bytes width) }
+    ensures { result ≡ last_row width rows pels.now }
 {
     let bytes = template::row_bytes(width);
     let from = (rows - 1) * bytes;
@@ -121,7 +121,7 @@ pub fn last_row(pels: &[u8], width: usize, rows: usize) -> [u8; ROW]
 
 // No room: the code is longer than the buffer or than the limit.
 pub fn has_room(n: usize, len: usize) -> bool
-    ensures { result ≡ (leb n len && leb n maxCode) }
+    ensures { result ≡ (leb n len && leb n max_code) }
 {
     if n <= len { n <= MAX_CODE } else { false }
 }
@@ -137,8 +137,8 @@ pub fn write_by(
     out: &mut [u8],
     top: bool,
 ) -> Wrote
-    requires { (1 ≤ width) × (width ≤ maxWidth) × (1 ≤ rows) × (rows ≤ maxRows)
-        × (length pels.now ≡ rows * rowBytes width)
+    requires { (1 ≤ width) × (width ≤ max_width) × (1 ≤ rows) × (rows ≤ max_rows)
+        × (length pels.now ≡ rows * row_bytes width)
         × LawfulTable table.entries }
     ensures { BandWrote width rows table last pels.now out.old result out.new }
 {
@@ -180,8 +180,8 @@ pub fn write_band(
     pels: &[u8],
     out: &mut [u8],
 ) -> Wrote
-    requires { (1 ≤ width) × (width ≤ maxWidth) × (1 ≤ rows) × (rows ≤ maxRows)
-        × (length pels.now ≡ rows * rowBytes width)
+    requires { (1 ≤ width) × (width ≤ max_width) × (1 ≤ rows) × (rows ≤ max_rows)
+        × (length pels.now ≡ rows * row_bytes width)
         × LawfulTable table.entries }
     ensures { BandWrote width rows table last pels.now out.old result out.new }
 {

@@ -3,9 +3,9 @@ use mathlib.Core.Path.{◌∙◌}
 use mathlib.Core.List.{[]}
 use Prim.Native.Nat.{◌<◌}
 use mathlib.Core.Bool.{true}
-use Rattle.limits.specs.Limits.{maxPages}
+use Rattle.limits.specs.Limits.{max_pages}
 use Rattle.parts.specs.declared.Parts.{Parts}
-use Rattle.parts.specs.Parts.{deskOf, parts_of}
+use Rattle.parts.specs.Parts.{desk_of, parts_of}
 use Rattle.desk.specs.Calls.{abandons}
 use Rattle.refusals.proofs.Refusing.{Stood, away, stood, at-end, turns-away, nothing_lent, stands-as}
 use Rattle.closing.proofs.Leaving.{abandon-number, abandon-done}
@@ -52,25 +52,25 @@ returns c =
     let p = parts (start s) in
     let r = s.page-for in
     let n = c.before.enum_told.given.1 in
-    let w = away (deskOf p) k true r.result
+    let w = away (desk_of p) k true r.result
     (stands-as p (whole s) _ k true r.result (checked s).lawful-desk.ensures.0 r.ensures.0) _ n in
     turns-away p (whole s) (abandons k) r.result _ c.turned-away.result [] n
-    (abandon-number (deskOf p) k ∙ w.1 []) w.0.0 c.turned-away.ensures (nothing_lent _)
+    (abandon-number (desk_of p) k ∙ w.1 []) w.0.0 c.turned-away.ensures (nothing_lent _)
 
 -- it stands on its page
 there : (c : tie.After-known-told) →
     let b = start (sought c) in
-    Stood (deskOf (parts b)) b.args.key true (slot c)
+    Stood (desk_of (parts b)) b.args.key true (slot c)
 there c =
     let s = sought c in
     let k = (start s).args.key in
     let p = parts (start s) in
     let r = s.page-for in
-    stood (deskOf p) k true r.result
+    stood (desk_of p) k true r.result
     (stands-as p (whole s) _ k true r.result (checked s).lawful-desk.ensures.0 r.ensures.0) _
     c.before.stands.given.1
 
-slot-within : (c : tie.After-known-told) → slot c < maxPages
+slot-within : (c : tie.After-known-told) → slot c < max_pages
 slot-within c = rw c.before.stands.given.1 at (sought c).page-for.ensures.1
 
 -- ---- the place that it only reserves, and its slot
@@ -92,7 +92,7 @@ returns-2 c =
     let p = parts (start s) in
     let n = c.before.clear-page in
     abandon-done p (whole s) k _ t.found g.clear-place.result n.result _ _ _ n.ensures c.done.result
-    h.reserved-place.result (abandon-number (deskOf p) k ∙ t.rest [] ∙ at-end) h.reserved-place.ensures.0
+    h.reserved-place.result (abandon-number (desk_of p) k ∙ t.rest [] ∙ at-end) h.reserved-place.ensures.0
     g.clear-place.ensures c.done.ensures
 
 pub abandon-spec : {M : Type 1} → statement M

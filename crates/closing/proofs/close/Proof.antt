@@ -4,11 +4,11 @@ use mathlib.Core.List.{[]}
 use Prim.Native.Nat.{◌<◌}
 use native.Mathlib.Omega.{arith}
 use mathlib.Core.Bool.{true}
-use Rattle.limits.specs.Limits.{maxPages}
+use Rattle.limits.specs.Limits.{max_pages}
 use Rattle.parts.specs.declared.Parts.{Parts}
-use Rattle.parts.specs.Parts.{deskOf, parts_of}
+use Rattle.parts.specs.Parts.{desk_of, parts_of}
 use Rattle.desk.specs.Calls.{closes}
-use Rattle.desk.specs.Changes.{learnedPlace}
+use Rattle.desk.specs.Changes.{learned_place}
 use Rattle.refusals.proofs.Refusing.{Stood, away, stood, at-end, turns-away, nothing_lent, stands-as}
 use Rattle.closing.proofs.Leaving.{close-number, close-done}
 use borrow.Author.Rules.{rules}
@@ -54,25 +54,25 @@ returns c =
     let p = parts (start s) in
     let r = s.page-for in
     let n = c.before.enum_told.given.1 in
-    let w = away (deskOf p) k true r.result
+    let w = away (desk_of p) k true r.result
     (stands-as p (whole s) _ k true r.result (checked s).lawful-desk.ensures.0 r.ensures.0) _ n in
     turns-away p (whole s) (closes k) r.result _ c.turned-away.result [] n
-    (close-number (deskOf p) k ∙ w.1 []) w.0.0 c.turned-away.ensures (nothing_lent _)
+    (close-number (desk_of p) k ∙ w.1 []) w.0.0 c.turned-away.ensures (nothing_lent _)
 
 -- it stands on its page
 there : (c : tie.After-known-told) →
     let b = start (sought c) in
-    Stood (deskOf (parts b)) b.args.key true (slot c)
+    Stood (desk_of (parts b)) b.args.key true (slot c)
 there c =
     let s = sought c in
     let k = (start s).args.key in
     let p = parts (start s) in
     let r = s.page-for in
-    stood (deskOf p) k true r.result
+    stood (desk_of p) k true r.result
     (stands-as p (whole s) _ k true r.result (checked s).lawful-desk.ensures.0 r.ensures.0) _
     c.before.stands.given.1
 
-slot-within : (c : tie.After-known-told) → slot c < maxPages
+slot-within : (c : tie.After-known-told) → slot c < max_pages
 slot-within c = rw c.before.stands.given.1 at (sought c).page-for.ensures.1
 
 -- ---- its class's place, and its slot
@@ -86,7 +86,7 @@ clear-page-requires c κs =
     let s = start (sought f) in (slot-within f, s.pre.0, s.pre.1)
 
 returns-2 : tie.Need-returns-2
-unfolding learnedPlace
+unfolding learned_place
 returns-2 c =
     let g = taught c.before.before in
     let h = looked g in
@@ -96,7 +96,7 @@ returns-2 c =
     let p = parts (start s) in
     let n = c.before.clear-page in
     close-done p (whole s) k _ t.found g.put-place.result n.result _ _ _ n.ensures c.done.result
-    h.find-place.result t.good (close-number (deskOf p) k ∙ t.rest [] ∙ at-end) h.find-place.ensures.0
+    h.find-place.result t.good (close-number (desk_of p) k ∙ t.rest [] ∙ at-end) h.find-place.ensures.0
     g.put-place.ensures c.done.ensures
 
 pub close_spec : {M : Type 1} → statement M

@@ -1,6 +1,6 @@
 -- By whether the class has a table. Assumes nothing.
 use mathlib.Core.Path.{sym, ap, ◌∙◌}
-use Rattle.desk.specs.Places.{isFound}
+use Rattle.desk.specs.Places.{is_found}
 use Rattle.closing.proofs.Leaving.{none-reserved, one-reserved}
 use borrow.Author.Rules.{rules}
 use Rattle.closing.proofs.reserved_place.Statement.{statement}
@@ -9,7 +9,7 @@ use Rattle.closing.proofs.reserved_place.Tie as tie
 returns : tie.Need-returns
 returns c =
     let a = c.before.before.before.args in (
-      none-reserved a.key a.places (ap isFound (sym c.before.before.find-place.ensures.0)
+      none-reserved a.key a.places (ap is_found (sym c.before.before.find-place.ensures.0)
           ∙ sym c.before.is_found.ensures
           ∙ c.if1.true),
       tt,
@@ -19,7 +19,7 @@ returns-2 : tie.Need-returns-2
 returns-2 c =
     let a = c.before.before.before.before.args in (
       c.find-place2.ensures.0
-          ∙ one-reserved a.key a.places (ap isFound (sym c.before.before.before.find-place.ensures.0)
+          ∙ one-reserved a.key a.places (ap is_found (sym c.before.before.before.find-place.ensures.0)
           ∙ sym
           c.before.before.is_found.ensures ∙ c.before.if1.false),
       c.find-place2.ensures.1,

@@ -8,7 +8,7 @@ use Rattle.desk.specs.declared.Answer.{Answer}
 use Rattle.parts.specs.declared.Parts.{Parts}
 use Rattle.desk.specs.Calls.{closes}
 use Rattle.parts.specs.Replies.{Serves}
-use Rattle.desk.specs.Asked.{asKey}
+use Rattle.desk.specs.Asked.{as_key}
 use Rattle.counter.proofs.Two.{outer-meets, Callee}
 use Rattle.asked_pages.proofs.closed.Symbol as g
 use Rattle.asked_pages.proofs.closed.Met as g-thm
@@ -18,7 +18,7 @@ use Rattle.counter.proofs.siftpebble_close.Statement as stated
 use Rattle.counter.proofs.siftpebble_close.Code as code
 
 abbrev Does : Parts → ℕ → ℕ → Answer → Parts → Type 0
-Does d s c r d' = Serves d (closes (asKey s c)) r d' []
+Does d s c r d' = Serves d (closes (as_key s c)) r d' []
 
 pub siftpebble-close-spec : {M : Type 1} → stated.statement M
 unfolding code.routine tables_of

@@ -8,7 +8,7 @@ use Rattle.desk.specs.declared.Answer.{Answer}
 use Rattle.parts.specs.declared.Parts.{Parts}
 use Rattle.desk.specs.Calls.{drops}
 use Rattle.parts.specs.Replies.{Serves}
-use Rattle.desk.specs.Asked.{asKey}
+use Rattle.desk.specs.Asked.{as_key}
 use Rattle.counter.proofs.Two.{outer-meets, Callee}
 use Rattle.asked_tables.proofs.forgotten.Symbol as g
 use Rattle.asked_tables.proofs.forgotten.Met as g-thm
@@ -18,7 +18,7 @@ use Rattle.counter.proofs.siftpebble_drop.Statement as stated
 use Rattle.counter.proofs.siftpebble_drop.Code as code
 
 abbrev Does : Parts → ℕ → ℕ → Answer → Parts → Type 0
-Does d s c r d' = Serves d (drops (asKey s c)) r d' []
+Does d s c r d' = Serves d (drops (as_key s c)) r d' []
 
 pub siftpebble-drop-spec : {M : Type 1} → stated.statement M
 unfolding code.routine tables_of

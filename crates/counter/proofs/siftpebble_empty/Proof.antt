@@ -41,16 +41,16 @@ use denote.Triple.Clauses.{Ended, Clauses, ensured, lasts, closing}
 use denote.Triple.Table.{entered, cited}
 use denote.Triple.Walked.{says, Stays, stay_ref, walk_of, AllGo, Goes-ref, Walks, ends_at, walked, walk_Meets}
 use denote.Exit.{yes}
-use Rattle.limits.specs.Limits.{maxPages, maxPlaces, contexts, lastBytes}
-use Rattle.parts.specs.Parts.{parts_of, deskOf, Sized}
+use Rattle.limits.specs.Limits.{max_pages, max_places, contexts, last_bytes}
+use Rattle.parts.specs.Parts.{parts_of, desk_of, Sized}
 use Rattle.parts.specs.Parts.{Whole}
-use Rattle.desk.specs.Places.{emptyDesk}
+use Rattle.desk.specs.Places.{empty_desk}
 use Rattle.parts.specs.declared.Book.{Book}
 use Rattle.parts.specs.declared.Parts.{Parts}
 use Rattle.parts.specs.contracts.Parts as T
 use Rattle.parts.specs.contracts.Book as B
 use Rattle.parts.proofs.Book.TheLaws as B'
-use Rattle.counter.specs.Layout.{workingAt, rows_at, learnedAt}
+use Rattle.counter.specs.Layout.{working_at, rows_at, learned_at}
 use Rattle.counter.proofs.Apart.{Working, Rows, Learned, Bytes, Names, bv, Fits, BookAt, DeskAt, Arrays, ref}
 use Rattle.counter.proofs.Apart.{Refs, Lents, Back}
 use Rattle.counter.proofs.Apart.{apart, together, lent_out, back_in}
@@ -64,12 +64,12 @@ use Rattle.counter.proofs.siftpebble_empty.Code as code
 abbrev bytes : ℕ → ℕ → Slot 1
 bytes n m = RefMutOf (0 ∷ []) tt (ArrayOf (ArrayOf (plain (λ _. u8)) (λ _. tt) n) (λ _. tt) m) (λ _. tt)
 
-abbrev gEnded : Ended
-gEnded = record {
+abbrev g_ended : Ended
+g_ended = record {
   signature = record {
     lifetimes = 1;
     outlives = [];
-    params = bytes contexts maxPages ∷ bytes lastBytes maxPages ∷ bytes contexts maxPlaces ∷ [];
+    params = bytes contexts max_pages ∷ bytes last_bytes max_pages ∷ bytes contexts max_places ∷ [];
     result = plain (λ _. B.the_row);
   };
   kept = (yes, (yes, (yes, tt)));
@@ -77,17 +77,17 @@ gEnded = record {
 
 -- what is said of the desk that is left
 abbrev Empty : Parts → Type 0
-Empty d = (deskOf d ≡ emptyDesk) × Whole d
+Empty d = (desk_of d ≡ empty_desk) × Whole d
 
-abbrev gClauses : {M : Type 1} (𝓤 : Ura M) → Clauses 𝓤 gEnded
-gClauses 𝓤 κs a = record {
+abbrev g_clauses : {M : Type 1} (𝓤 : Ura M) → Clauses 𝓤 g_ended
+g_clauses 𝓤 κs a = record {
   ghost = Unit {0};
   requires = λ _. fact 𝓤 (Sized a.0.now a.1.0.now a.1.1.0.now);
   ensures = λ _ r e. fact 𝓤 (Empty (parts_of r e.0.now e.1.0.now e.1.1.0.now));
 }
 
 abbrev Callee : {M : Type 1} {𝓤 : Ura M} (𝓛 : Logic 𝓤) → Contract 𝓤
-Callee {𝓤 = 𝓤} 𝓛 = triple_of 𝓛 gEnded.signature (closing 𝓛 gEnded (gClauses 𝓤))
+Callee {𝓤 = 𝓤} 𝓛 = triple_of 𝓛 g_ended.signature (closing 𝓛 g_ended (g_clauses 𝓤))
 
 abbrev stayed : Stays (f.ended).signature.params (f.ended).kept
 stayed = (stay_ref (0 ∷ []) tt (plain (λ _. T.the_row)), tt)
@@ -126,15 +126,15 @@ module _ {M : Type 1} {𝓤 : Ura M} (𝓛 : Logic 𝓤) (at_mem : Memory → SP
 
       abbrev gx : MutBor Bytes × (MutBor Bytes × (MutBor Bytes × Unit {0}))
       gx = (
-        lent workingAt δ.0 h.working,
+        lent working_at δ.0 h.working,
         (
           lent rows_at δ.1.0 h.rows,
-          (lent learnedAt δ.1.1 h.learned, tt),
+          (lent learned_at δ.1.1 h.learned, tt),
         ),
       )
 
       abbrev at_g : List Val × (List Val × (List Val × Unit {0}))
-      at_g = (vptr b (o + workingAt) ∷ [], (vptr b (o + rows_at) ∷ [], (vptr b (o + learnedAt) ∷ [], tt)))
+      at_g = (vptr b (o + working_at) ∷ [], (vptr b (o + rows_at) ∷ [], (vptr b (o + learned_at) ∷ [], tt)))
 
       abbrev to-g : (Callee 𝓛).Ghost
       to-g = (((α ∷ [], tt), (full_share, tt), tt, gx, at_g), tt)
@@ -145,8 +145,8 @@ module _ {M : Type 1} {𝓤 : Ura M} (𝓛 : Logic 𝓤) (at_mem : Memory → SP
           ((Callee 𝓛).pre to-g)
       goes-g is =
           qed 𝓛 (‵ (flft (α ∷ []) full_share)
-          ∷ (‵ (ref b o Working α workingAt δ.0 h.working) ⊛ ‵ (ref b o Rows α rows_at δ.1.0 h.rows)
-          ⊛ ‵ (ref b o Learned α learnedAt δ.1.1 h.learned)) ∷ ‵ ftrue ∷ ‵ ftrue ∷ []) ∵
+          ∷ (‵ (ref b o Working α working_at δ.0 h.working) ⊛ ‵ (ref b o Rows α rows_at δ.1.0 h.rows)
+          ⊛ ‵ (ref b o Learned α learned_at δ.1.1 h.learned)) ∷ ‵ ftrue ∷ ‵ ftrue ∷ []) ∵
           says ! is.1 $ move ! (0 ∷ 2 ∷ []) $ join ! $ move ! (1 ∷ []) $ split3 ! $
           move ! (2 ∷ 4 ∷ []) $ fjoin ! $ move ! (2 ∷ 0 ∷ []) $ fjoin ! $ move ! (1 ∷ 0 ∷ []) $ fjoin !
           $ move ! (1 ∷ 0 ∷ []) $ done !
@@ -198,9 +198,9 @@ module _ {M : Type 1} {𝓤 : Ura M} (𝓛 : Logic 𝓤) (at_mem : Memory → SP
           (and_then ! (load ! (from ! (stop !)) (look ! 11 refl)) (and_then ! (load ! (from ! (stop !)) (look ! 9 refl))
           (and_then ! (load ! (from ! (stop !)) (look ! 7 refl)) (no_more !)))) (λ v.
           use1 𝓛 (later (some (λ (r : Book). ((‵ (flft (α ∷ []) full_share) ⊛ ‵ ftrue) ⊛ ‵ ((B.the_row).own_val r (v ∷ [])))
-          ⊛ raw (ensured 𝓛 gEnded (gClauses 𝓤) (α ∷ [], tt) (gx α δ) tt r)))) (id⊢ 𝓤 _) $ await ! tt
+          ⊛ raw (ensured 𝓛 g_ended (g_clauses 𝓤) (α ∷ [], tt) (gx α δ) tt r)))) (id⊢ 𝓤 _) $ await ! tt
           $ pick ! (λ r. split ! $ move ! (1 ∷ []) $
-          use1 𝓛 (some (λ (zs : Last). ‵ (lasts gEnded (α ∷ [], tt) (gx α δ) zs) ⊛ raw (fact 𝓤 (Empty (after r zs)))))
+          use1 𝓛 (some (λ (zs : Last). ‵ (lasts g_ended (α ∷ [], tt) (gx α δ) zs) ⊛ raw (fact 𝓤 (Empty (after r zs)))))
           (id⊢ 𝓤 _) $ pick ! (λ zs.
           split ! $ move ! (1 ∷ []) $ heard ! (Empty (after r zs)) (λ e.
           fsplit ! $ move ! (1 ∷ []) $ fsplit ! $ move ! (1 ∷ []) $ fsplit ! $ move ! (1 ∷ []) $ drop ! $

@@ -8,7 +8,7 @@ use Rattle.desk.specs.declared.Answer.{Answer}
 use Rattle.parts.specs.declared.Parts.{Parts}
 use Rattle.desk.specs.Calls.{looks}
 use Rattle.parts.specs.Replies.{Serves}
-use Rattle.desk.specs.Asked.{asKey}
+use Rattle.desk.specs.Asked.{as_key}
 use Rattle.counter.proofs.TwoOut.{outer-meets, Callee}
 use Rattle.asked_tables.proofs.looked.Symbol as g
 use Rattle.asked_tables.proofs.looked.Met as g-thm
@@ -18,7 +18,7 @@ use Rattle.counter.proofs.siftpebble_look.Statement as stated
 use Rattle.counter.proofs.siftpebble_look.Code as code
 
 abbrev Does : Parts → ℕ → ℕ → List ℕ → Answer → Parts → List ℕ → Type 0
-Does d s c out r d' after = Serves d (looks (asKey s c) out) r d' after
+Does d s c out r d' after = Serves d (looks (as_key s c) out) r d' after
 
 pub siftpebble-look-spec : {M : Type 1} → stated.statement M
 unfolding code.routine tables_of

@@ -8,7 +8,7 @@ use Rattle.desk.specs.declared.Answer.{Answer}
 use Rattle.parts.specs.declared.Parts.{Parts}
 use Rattle.desk.specs.Calls.{opens}
 use Rattle.parts.specs.Replies.{Serves}
-use Rattle.desk.specs.Asked.{toRead}
+use Rattle.desk.specs.Asked.{to_read}
 use Rattle.counter.proofs.Three.{outer-meets, Callee}
 use Rattle.asked_pages.proofs.opened_to_read.Symbol as g
 use Rattle.asked_pages.proofs.opened_to_read.Met as g-thm
@@ -18,7 +18,7 @@ use Rattle.counter.proofs.siftpebble_open_read.Statement as stated
 use Rattle.counter.proofs.siftpebble_open_read.Code as code
 
 abbrev Does : Parts → ℕ → ℕ → ℕ → Answer → Parts → Type 0
-Does d s c n r d' = Serves d (opens (toRead s c n)) r d' []
+Does d s c n r d' = Serves d (opens (to_read s c n)) r d' []
 
 pub siftpebble-open-read-spec : {M : Type 1} → stated.statement M
 unfolding code.routine tables_of

@@ -8,7 +8,7 @@ use Rattle.desk.specs.declared.Answer.{Answer}
 use Rattle.parts.specs.declared.Parts.{Parts}
 use Rattle.desk.specs.Calls.{opens}
 use Rattle.parts.specs.Replies.{Serves}
-use Rattle.desk.specs.Asked.{toWrite}
+use Rattle.desk.specs.Asked.{to_write}
 use Rattle.counter.proofs.Three.{outer-meets, Callee}
 use Rattle.asked_pages.proofs.opened_to_write.Symbol as g
 use Rattle.asked_pages.proofs.opened_to_write.Met as g-thm
@@ -18,7 +18,7 @@ use Rattle.counter.proofs.siftpebble_open_write.Statement as stated
 use Rattle.counter.proofs.siftpebble_open_write.Code as code
 
 abbrev Does : Parts → ℕ → ℕ → ℕ → Answer → Parts → Type 0
-Does d s c n r d' = Serves d (opens (toWrite s c n)) r d' []
+Does d s c n r d' = Serves d (opens (to_write s c n)) r d' []
 
 pub siftpebble-open-write-spec : {M : Type 1} → stated.statement M
 unfolding code.routine tables_of

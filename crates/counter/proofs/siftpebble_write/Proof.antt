@@ -8,7 +8,7 @@ use Rattle.desk.specs.declared.Answer.{Answer}
 use Rattle.parts.specs.declared.Parts.{Parts}
 use Rattle.desk.specs.Calls.{writes}
 use Rattle.parts.specs.Replies.{Serves}
-use Rattle.desk.specs.Asked.{askOf}
+use Rattle.desk.specs.Asked.{ask_of}
 use Rattle.counter.proofs.ThreeInOut.{outer-meets, Callee}
 use Rattle.asked_bands.proofs.written.Symbol as g
 use Rattle.asked_bands.proofs.written.Met as g-thm
@@ -18,7 +18,7 @@ use Rattle.counter.proofs.siftpebble_write.Statement as stated
 use Rattle.counter.proofs.siftpebble_write.Code as code
 
 abbrev Does : Parts → ℕ → ℕ → ℕ → List ℕ → List ℕ → Answer → Parts → List ℕ → Type 0
-Does d s c n pels out r d' after = Serves d (writes (askOf s c n) pels out) r d' after
+Does d s c n pels out r d' after = Serves d (writes (ask_of s c n) pels out) r d' after
 
 pub siftpebble-write-spec : {M : Type 1} → stated.statement M
 unfolding code.routine tables_of

@@ -13,12 +13,12 @@ use Rattle.estimate.proofs.fall_of.Tie as tie
 abbrev bits_of : ℕ → ℕ
 bits_of i = 0x0BBBAAAAAAAA9554 / 2 ^ (2 * i) % 4
 
-fallsSo : ℕ → ℕ → Bool
-fallsSo i q = eqb (bits_of i) (fall i)
+falls_so : ℕ → ℕ → Bool
+falls_so i q = eqb (bits_of i) (fall i)
 
 bits-fall : (i : ℕ) → i ≤ 29 → bits_of i ≡ fall i
-unfolding fallsSo fall
-bits-fall i h = eqb→eq (bits_of i) (fall i) (at_each fallsSo 1 rows tt i (omega arith))
+unfolding falls_so fall
+bits-fall i h = eqb→eq (bits_of i) (fall i) (at_each falls_so 1 rows tt i (omega arith))
 
 mul-fall : tie.Need-overflow-mul-fall
 mul-fall c = search rules

@@ -4,13 +4,13 @@ use Prim.Native.Nat.{ℕ, zero, suc, ◌/◌, ◌%◌, ◌≤◌, ◌<◌}
 use native.Mathlib.Decide.{dec_lt}
 use native.Mathlib.Omega.{arith}
 use lib.ListN.{get_or}
-use Rattle.estimate.specs.Estimate.{rows, rowOf, LawfulEntry}
+use Rattle.estimate.specs.Estimate.{rows, row_of, LawfulEntry}
 use Rattle.estimate.proofs.row_of.Statement.{statement}
 use Rattle.estimate.proofs.row_of.Tie as tie
 
 -- the five bits are the index
-arm : (e k v : ℕ) → LawfulEntry e → e / 2 % 32 ≡ k → v ≡ get_or rows k 1 → v ≡ rowOf e
-unfolding rowOf
+arm : (e k v : ℕ) → LawfulEntry e → e / 2 % 32 ≡ k → v ≡ get_or rows k 1 → v ≡ row_of e
+unfolding row_of
 arm e k v h i r = let j : k ≡ e / 2 = omega arith in r ∙ ap (λ (n : ℕ). get_or rows n 1) j
 
 -- none of the first n numbers
@@ -26,7 +26,7 @@ past (suc n) x h = go (past n x h.0) (dec_lt n x)
     go k (yes l) = l
     go k (no l) = absurd (h.1 (omega arith))
 
-rest-arm : (e : ℕ) → LawfulEntry e → NoneBelow 31 (e / 2 % 32) → 1 ≡ rowOf e
+rest-arm : (e : ℕ) → LawfulEntry e → NoneBelow 31 (e / 2 % 32) → 1 ≡ row_of e
 rest-arm e h n = let k : 31 ≤ e / 2 % 32 = past 31 (e / 2 % 32) n in absurd (omega arith)
 
 returns : tie.Need-returns

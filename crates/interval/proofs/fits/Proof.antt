@@ -2,12 +2,12 @@
 use native.Mathlib.Nat.{div-mul-le_self, div-lt_iff_lt-mul, mul-le-mul}
 use native.Mathlib.Omega.{arith}
 use borrow.Author.Rules.{rules}
-use Rattle.limits.specs.Limits.{maxWidth}
+use Rattle.limits.specs.Limits.{max_width}
 use Rattle.interval.proofs.fits.Statement.{statement}
 use Rattle.interval.proofs.fits.Tie as tie
 
 mul-if1 : tie.Need-overflow-mul-if1
-mul-if1 c = let p = mul-le-mul {n₁ = c.args.n} {m₁ = c.args.q} {n₂ = maxWidth} {m₂ = 0xAC1} c.requires.0
+mul-if1 c = let p = mul-le-mul {n₁ = c.args.n} {m₁ = c.args.q} {n₂ = max_width} {m₂ = 0xAC1} c.requires.0
     c.requires.2 in omega arith
 
 returns : tie.Need-returns

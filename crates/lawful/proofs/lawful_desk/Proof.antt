@@ -5,10 +5,10 @@ use mathlib.Core.List.{List}
 use Rattle.parts.specs.declared.Parts.{Parts}
 use Rattle.parts.specs.declared.PageLine.{PageLine}
 use Rattle.parts.specs.declared.PlaceLine.{PlaceLine}
-use Rattle.parts.specs.Parts.{parts_of, deskOf, Whole}
+use Rattle.parts.specs.Parts.{parts_of, desk_of, Whole}
 use Rattle.parts.proofs.Lines.{lines-off, place-lines-off, tables-long, rows_long, learned-long}
 use Rattle.lawful.specs.Every.{each}
-use Rattle.lawful.specs.Each.{pageRight, placeRight}
+use Rattle.lawful.specs.Each.{page_right, place_right}
 use Rattle.lawful.proofs.Each.{lawful-each}
 use borrow.Author.Rules.{rules}
 use Rattle.lawful.proofs.lawful_desk.Statement.{statement}
@@ -24,13 +24,13 @@ returns c =
       arrays = c.before.before.before.before.requires;
     } in (
       ap₂ (λ (x y : Bool). x && y)
-          (c.before.pages-right.ensures.0 ∙ ap (λ (z : List PlaceLine). each (pageRight z) (deskOf p).pages)
+          (c.before.pages-right.ensures.0 ∙ ap (λ (z : List PlaceLine). each (page_right z) (desk_of p).pages)
           (sym (place-lines-off _ _
           (learned-long p w))))
           (c.places-right.ensures.0
-          ∙ ap (λ (z : List PageLine). each (placeRight z) (deskOf p).places)
+          ∙ ap (λ (z : List PageLine). each (place_right z) (desk_of p).places)
           (sym (lines-off _ _ _ (tables-long p w) (rows_long p w))))
-          ∙ sym (lawful-each (deskOf p)),
+          ∙ sym (lawful-each (desk_of p)),
       w,
     )
 

@@ -3,7 +3,7 @@ use mathlib.Core.Path.{ap, ◌∙◌}
 use Prim.Native.Nat.{ℕ}
 use mathlib.Core.Bool.{not}
 use borrow.Author.Tests.{ne_eqb}
-use Rattle.desk.specs.Places.{sameKey}
+use Rattle.desk.specs.Places.{same_key}
 use Rattle.lawful.specs.Highest.{low}
 use Rattle.lawful.proofs.Each.{free-made, used-made}
 use borrow.Author.Rules.{rules}
@@ -13,7 +13,7 @@ use Rattle.lawful.proofs.lawful_place.Tie as tie
 returns : tie.Need-returns
 returns c =
     let a = c.before.before.before.before.before.before.before.args in
-    free-made _ _ _ c.before.before.if1.true (c.same_key.ensures ∙ ap (sameKey a.q.key)
+    free-made _ _ _ c.before.before.if1.true (c.same_key.ensures ∙ ap (same_key a.q.key)
     c.before.no_key.ensures)
     (c.before.before.before.before.is-low.ensures ∙ ap (λ (n : ℕ). low n a.table.now)
     c.before.before.before.before.before.top-entry.ensures)

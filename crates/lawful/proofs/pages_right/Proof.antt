@@ -4,13 +4,13 @@ use Prim.Native.Nat.{◌-◌}
 use native.Mathlib.Omega.{arith}
 use lib.ListN.{length}
 use borrow.Author.Tests.{not-true, not-false}
-use Rattle.limits.specs.Limits.{maxPages}
-use Rattle.parts.specs.Parts.{pagesOf}
-use Rattle.desk.specs.Places.{noPage}
+use Rattle.limits.specs.Limits.{max_pages}
+use Rattle.parts.specs.Parts.{pages_of}
+use Rattle.desk.specs.Places.{no_page}
 use Rattle.parts.proofs.Lines.{length-pages}
 use Rattle.lawful.specs.Every.{each}
 use Rattle.lawful.proofs.Every.{Left, left-starts, each-failed, each-passed, each-end}
-use Rattle.lawful.specs.Each.{pageRight}
+use Rattle.lawful.specs.Each.{page_right}
 use Rattle.lawful.proofs.Each.{page-right, both-made}
 use borrow.Author.Rules.{rules}
 use Rattle.lawful.proofs.pages_right.Statement.{statement}
@@ -21,11 +21,11 @@ use lib.ListN.{get_or, drop}
 
 abbrev invariant-loop : tie.invariant-loop
 invariant-loop places working rows pages i₀ i =
-    let ps = pagesOf pages working rows in
-    Left (pageRight places) (each (pageRight places) ps) ps maxPages i
+    let ps = pages_of pages working rows in
+    Left (page_right places) (each (page_right places) ps) ps max_pages i
 
 abbrev decreases-loop : tie.decreases-loop
-decreases-loop places working rows pages i₀ i = maxPages - i
+decreases-loop places working rows pages i₀ i = max_pages - i
 
 -- ---- the stations of a turn: each is a place passed on the way, seen from a later one
 -- the page's parts are asked for, seen from where it is judged
@@ -37,12 +37,12 @@ abbrev turn : tie.After-page-known invariant-loop decreases-loop → tie.At-loop
 turn c = (asked c).before.before.before
 
 -- ---- what is known
-full : (c : tie.Start invariant-loop decreases-loop) → length c.args.t1 ≡ maxPages
+full : (c : tie.Start invariant-loop decreases-loop) → length c.args.t1 ≡ max_pages
 full c = search rules
 
 judged : (c : tie.After-page-known invariant-loop decreases-loop) → let a = (turn c).before.args in let i = (turn c).loop.i in
-    let ps = pagesOf a.t1 a.working.now a.rows.now in
-    pageRight a.places (get_or ps i noPage) (drop (i + 1) ps)
+    let ps = pages_of a.t1 a.working.now a.rows.now in
+    page_right a.places (get_or ps i no_page) (drop (i + 1) ps)
     ≡ (c.before.lawful-page.result && c.page-known.result)
 judged c =
     let s = (turn c).before in
@@ -57,13 +57,13 @@ starts c = let n = full c in left-starts (length-pages _ _ _ (n ∙ sym c.requir
 returns : tie.Need-returns invariant-loop decreases-loop
 returns c =
     let t = turn c.before in (
-      each-failed t.loop.inv noPage (omega arith) (judged c.before ∙ not-true _ c.if1.true),
+      each-failed t.loop.inv no_page (omega arith) (judged c.before ∙ not-true _ c.if1.true),
       full t.before,
     )
 
 loop-again : tie.Need-loop-preserved invariant-loop decreases-loop
 loop-again c =
-    each-passed (turn c.before).loop.inv noPage (omega arith) (judged c.before ∙ not-false _ c.if1.false)
+    each-passed (turn c.before).loop.inv no_page (omega arith) (judged c.before ∙ not-false _ c.if1.false)
 
 returns-2 : tie.Need-returns-2 invariant-loop decreases-loop
 returns-2 c = (each-end c.before.loop.invariant (omega arith), full c.before.before)

@@ -5,17 +5,17 @@ use mathlib.Core.List.{[]}
 use Prim.Native.Nat.{◌<◌}
 use native.Mathlib.Omega.{arith}
 use lib.ListN.{get_or}
-use Rattle.limits.specs.Limits.{maxPages, maxPlaces, maxWidth}
+use Rattle.limits.specs.Limits.{max_pages, max_places, max_width}
 use Rattle.band.specs.Band.{white}
 use Rattle.parts.specs.declared.Parts.{Parts}
 use Rattle.parts.specs.declared.PageLine.{PageLine}
 use Rattle.desk.specs.declared.Found.TheVariants.{At}
 use Rattle.parts.specs.declared.Sought.TheVariants.{Used, Learned, Free}
-use Rattle.parts.specs.Parts.{asPage, deskOf, parts_of}
-use Rattle.desk.specs.Places.{isFound, pageFound, freePageFound}
+use Rattle.parts.specs.Parts.{as_page, desk_of, parts_of}
+use Rattle.desk.specs.Places.{is_found, page_found, free_page_found}
 use Rattle.parts.proofs.Lines.{find-pages, find-places}
 use Rattle.parts.proofs.Puts.{page-as}
-use Rattle.desk.specs.Lawful.{within, lawfulKey, lawful}
+use Rattle.desk.specs.Lawful.{within, lawful_key, lawful}
 use Rattle.desk.specs.Calls.{opens}
 use Rattle.refusals.specs.Stands.{early}
 use Rattle.refusals.proofs.Refusing.{refuses, nothing_lent}
@@ -26,7 +26,7 @@ use Rattle.opening.proofs.open.Tie as tie
 use mathlib.Core.Bool.{false}
 use Prim.Native.Nat.{ℕ}
 use Rattle.parts.specs.Parts.{Whole}
-use Rattle.desk.specs.Places.{tableFound}
+use Rattle.desk.specs.Places.{table_found}
 
 -- ---- the stations of an open, each seen from a later one
 abbrev checked : tie.After-early-refusal → tie.After-lawful-desk
@@ -79,10 +79,10 @@ whole c = (checked c).lawful-desk.ensures.1
 asked : (c : tie.After-early-refusal) →
     let a = (start c).args in
     c.early-refusal.result
-    ≡ early (lawful (deskOf (parts (start c)))) (lawfulKey a.ask.key) (within 1 a.ask.width maxWidth)
+    ≡ early (lawful (desk_of (parts (start c)))) (lawful_key a.ask.key) (within 1 a.ask.width max_width)
 asked c =
     c.early-refusal.ensures
-    ∙ ap₂ (λ (g s : Bool). early g (lawfulKey (start c).args.ask.key) s) (checked c).lawful-desk.ensures.0
+    ∙ ap₂ (λ (g s : Bool). early g (lawful_key (start c).args.ask.key) s) (checked c).lawful-desk.ensures.0
     (sized c).in-range.ensures
 
 returns : tie.Need-returns
@@ -97,11 +97,11 @@ returns c =
 -- ---- whether a page is open
 opened : (c : tie.After-is-found) →
     let b = start (admitted c).before in
-    isFound (pageFound (deskOf (parts b)) b.args.ask.key) ≡ c.is_found.result
+    is_found (page_found (desk_of (parts b)) b.args.ask.key) ≡ c.is_found.result
 opened c =
     let s = (admitted c).before in
     let k = (start s).args.ask.key in
-    ap isFound (find-pages (parts (start s)) (whole s) (Used k) ∙ sym c.before.find-page.ensures.0)
+    ap is_found (find-pages (parts (start s)) (whole s) (Used k) ∙ sym c.before.find-page.ensures.0)
     ∙ sym c.is_found.ensures
 
 returns-2 : tie.Need-returns-2
@@ -119,11 +119,11 @@ goes_on c = (admitted (vacant c).before).if1.false
 
 is-vacant : (c : tie.After-find-page2) →
     let b = start (tested c) in
-    isFound (pageFound (deskOf (parts b)) b.args.ask.key) ≡ false
+    is_found (page_found (desk_of (parts b)) b.args.ask.key) ≡ false
 is-vacant c = opened (vacant c).before ∙ (vacant c).if2.false
 
 -- ---- the slot that it takes
-finds-free : (c : tie.After-find-page2) → freePageFound (deskOf (parts (start (tested c)))) ≡ c.find-page2.result
+finds-free : (c : tie.After-find-page2) → free_page_found (desk_of (parts (start (tested c)))) ≡ c.find-page2.result
 finds-free c = find-pages (parts (start (tested c))) (whole (tested c)) Free ∙ sym c.find-page2.ensures.0
 
 returns-3 : tie.Need-returns-3
@@ -136,21 +136,21 @@ returns-3 c =
     (open-pages p a.ask _ (asked s) (goes_on f) (is-vacant f) (finds-free f ∙ c.before.enum_told.given.1))
     (λ z. omega arith) c.refused3.ensures (nothing_lent 4)
 
-takes : (c : tie.After-known-told) → freePageFound (deskOf (parts (start (tested (sought c))))) ≡ At (slot c)
+takes : (c : tie.After-known-told) → free_page_found (desk_of (parts (start (tested (sought c))))) ≡ At (slot c)
 takes c = finds-free (sought c) ∙ c.before.i.given.1
 
-slot-within : (c : tie.After-known-told) → slot c < maxPages
+slot-within : (c : tie.After-known-told) → slot c < max_pages
 slot-within c = rw c.before.i.given.1 at (sought c).find-page2.ensures.1
 
 -- ---- its class's table
 finds-table : (c : tie.After-find-place) →
     let b = start (tested (sought (found c))) in
-    tableFound (deskOf (parts b)) b.args.ask.key ≡ c.find-place.result
+    table_found (desk_of (parts b)) b.args.ask.key ≡ c.find-place.result
 finds-table c =
     let s = tested (sought (found c)) in
     find-places (parts (start s)) (whole s) (Learned (start s).args.ask.key) ∙ sym c.find-place.ensures.0
 
-place-within : (c : tie.After-known-told2) → place c < maxPlaces
+place-within : (c : tie.After-known-told2) → place c < max_places
 place-within c = rw c.before.j.given.1 at (looked c).find-place.ensures.1
 
 open-new-requires : tie.Need-open-new-requires
@@ -187,7 +187,7 @@ returns-5 c =
     let n = c.before.put-page in
     open-taught (parts (start s)) a.ask _ (asked s) (goes_on v) (is-vacant v) (slot f) (takes f) (whole s) (place k)
     c.done.result n.result _ _ (finds-table (looked k) ∙ k.before.j.given.1)
-    (page-as (ap (λ (l : PageLine). asPage l (get_or a.learned.now (place k) []) white) l.new_line.ensures)
+    (page-as (ap (λ (l : PageLine). as_page l (get_or a.learned.now (place k) []) white) l.new_line.ensures)
     n.ensures) c.done.ensures
 
 pub open_spec : {M : Type 1} → statement M

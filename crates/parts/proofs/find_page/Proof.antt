@@ -3,25 +3,25 @@ use mathlib.Core.Path.{sym, ◌∙◌}
 use Prim.Native.Nat.{◌-◌}
 use native.Mathlib.Omega.{arith}
 use borrow.Author.Rules.{rules}
-use Rattle.limits.specs.Limits.{maxPages}
-use Rattle.parts.specs.Lines.{noPageLine}
-use Rattle.parts.specs.Finding.{pageSought}
+use Rattle.limits.specs.Limits.{max_pages}
+use Rattle.parts.specs.Lines.{no_page_line}
+use Rattle.parts.specs.Finding.{page_sought}
 use Rattle.parts.proofs.Finding.{Searching, search-starts, found_here, found-later, found_nowhere}
 use Rattle.parts.proofs.find_page.Statement.{statement}
 use Rattle.parts.proofs.find_page.Tie as tie
 
 abbrev invariant-loop : tie.invariant-loop
-invariant-loop b sought pages i₀ i = Searching (pageSought sought) pages maxPages b i
+invariant-loop b sought pages i₀ i = Searching (page_sought sought) pages max_pages b i
 
 abbrev decreases-loop : tie.decreases-loop
-decreases-loop b sought pages i₀ i = maxPages - i
+decreases-loop b sought pages i₀ i = max_pages - i
 
 returns : tie.Need-returns invariant-loop decreases-loop
-returns c = found_here c.before.before.before.before.loop.invariant noPageLine (omega arith)
+returns c = found_here c.before.before.before.before.loop.invariant no_page_line (omega arith)
     (sym c.before.is-sought.ensures ∙ c.if1.true)
 
 loop-again : tie.Need-loop-preserved invariant-loop decreases-loop
-loop-again c = found-later c.before.before.before.before.loop.invariant noPageLine (omega arith)
+loop-again c = found-later c.before.before.before.before.loop.invariant no_page_line (omega arith)
     (sym c.before.is-sought.ensures
     ∙ c.if1.false)
 

@@ -3,25 +3,25 @@ use mathlib.Core.Path.{sym, ◌∙◌}
 use Prim.Native.Nat.{◌-◌}
 use native.Mathlib.Omega.{arith}
 use borrow.Author.Rules.{rules}
-use Rattle.limits.specs.Limits.{maxPlaces}
-use Rattle.parts.specs.Lines.{noPlaceLine}
-use Rattle.parts.specs.Finding.{placeSought}
+use Rattle.limits.specs.Limits.{max_places}
+use Rattle.parts.specs.Lines.{no_place_line}
+use Rattle.parts.specs.Finding.{place_sought}
 use Rattle.parts.proofs.Finding.{Searching, search-starts, found_here, found-later, found_nowhere}
 use Rattle.parts.proofs.find_place.Statement.{statement}
 use Rattle.parts.proofs.find_place.Tie as tie
 
 abbrev invariant-loop : tie.invariant-loop
-invariant-loop b sought places i₀ i = Searching (placeSought sought) places maxPlaces b i
+invariant-loop b sought places i₀ i = Searching (place_sought sought) places max_places b i
 
 abbrev decreases-loop : tie.decreases-loop
-decreases-loop b sought places i₀ i = maxPlaces - i
+decreases-loop b sought places i₀ i = max_places - i
 
 returns : tie.Need-returns invariant-loop decreases-loop
-returns c = found_here c.before.before.before.before.loop.invariant noPlaceLine (omega arith)
+returns c = found_here c.before.before.before.before.loop.invariant no_place_line (omega arith)
     (sym c.before.is-sought.ensures ∙ c.if1.true)
 
 loop-again : tie.Need-loop-preserved invariant-loop decreases-loop
-loop-again c = found-later c.before.before.before.before.loop.invariant noPlaceLine (omega arith)
+loop-again c = found-later c.before.before.before.before.loop.invariant no_place_line (omega arith)
     (sym c.before.is-sought.ensures
     ∙ c.if1.false)
 

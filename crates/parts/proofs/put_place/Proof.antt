@@ -1,8 +1,8 @@
 -- What is put among the parts where a place was found is put there in the desk. Assumes nothing.
 use Prim.Native.Nat.{◌<◌}
 use native.Mathlib.Omega.{arith}
-use Rattle.limits.specs.Limits.{maxPlaces}
-use Rattle.parts.specs.Parts.{asPlace}
+use Rattle.limits.specs.Limits.{max_places}
+use Rattle.parts.specs.Parts.{as_place}
 use Rattle.parts.proofs.Puts.{place-put, no-place-put}
 use borrow.Author.Rules.{rules}
 use Rattle.parts.proofs.put_place.Statement.{statement}
@@ -10,10 +10,10 @@ use Rattle.parts.proofs.put_place.Tie as tie
 
 returns : tie.Need-returns
 returns c = let a = c.before.before.args in no-place-put a.book a.learned.now a.found
-    (asPlace a.place a.table.entries)
+    (as_place a.place a.table.entries)
     c.enum_told.given.1
 
-within : (c : tie.After-entries) → c.before.before.found.given.0.0 < maxPlaces
+within : (c : tie.After-entries) → c.before.before.found.given.0.0 < max_places
 within c = rw c.before.before.found.given.1 at c.before.before.before.before.requires.0
 
 returns-2 : tie.Need-returns-2

@@ -7,7 +7,7 @@ use borrow.Author.Rules.{rules}
 use mathlib.Core.Bool.{true, false, ◌&&◌}
 use lib.ListN.{length, take}
 use lib.Seq.{length-take-le}
-use Rattle.limits.specs.Limits.{maxRows, farthest}
+use Rattle.limits.specs.Limits.{max_rows, farthest}
 use Rattle.engine.specs.Followed.{matches}
 use Rattle.reader.proofs.RowsRead.{reads-few}
 use Rattle.reader.proofs.Ends.{read_done, read-damaged, read-nothing, fits-when, fits_not, as-compared, counted}
@@ -73,7 +73,7 @@ row-bytes-requires c κs = search rules
 mul-length : tie.Need-overflow-mul-length
 mul-length c =
     let q = (begin c).requires in
-    let m = mul-le-mul_right {m = (begin c).args.rows} {n = maxRows} c.row-bytes.result q.3 in
+    let m = mul-le-mul_right {m = (begin c).args.rows} {n = max_rows} c.row-bytes.result q.3 in
     omega (arith, m, c.row-bytes.ensures, q.1)
 
 clear-requires : tie.Need-clear-requires

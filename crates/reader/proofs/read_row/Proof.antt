@@ -14,7 +14,7 @@ use Rattle.estimate.specs.declared.Table.{Table}
 use Rattle.estimate.specs.Estimate.{LawfulTable}
 use Rattle.estimate.proofs.LawfulEntries.{row_sized}
 use Rattle.octets.proofs.OnePel.{low_fits}
-use Rattle.template.specs.Pels.{pelsTo}
+use Rattle.template.specs.Pels.{pels_to}
 use Rattle.template.specs.Packing.{Row}
 use Rattle.template.specs.White.{Under}
 use Rattle.template.specs.declared.Window.{Window}
@@ -24,10 +24,10 @@ use Rattle.template.proofs.Sliding.{pels-bits, slid-context, slid-small}
 use Rattle.template.proofs.Packing.{row-none}
 use Rattle.engine.proofs.Coded.{pelled-kept}
 use Rattle.engine.proofs.Followed.{match_none}
-use Rattle.top_row.specs.TopRow.{topEngine, given}
-use Rattle.top_row.proofs.TopEngine.{topIsEngine}
-use Rattle.top_row.proofs.TopPels.{topSeven, up-ready, up-count}
-use Rattle.unique.specs.QCoder.{qReader}
+use Rattle.top_row.specs.TopRow.{top_engine, given}
+use Rattle.top_row.proofs.TopEngine.{top_is_engine}
+use Rattle.top_row.proofs.TopPels.{top_seven, up-ready, up-count}
+use Rattle.unique.specs.QCoder.{q_reader}
 use Rattle.sight.proofs.Views.{told-bit}
 use Rattle.reader.proofs.ReadRow.{read_told, read-start, read-turn, read-window, read-lawful, read-few}
 use Rattle.reader.proofs.ReadRow.{read-room, read_whole, read_down}
@@ -40,9 +40,9 @@ use Prim.Native.Nat.{◌<◌}
 abbrev invariant-loop : tie.invariant-loop
 invariant-loop code above width coder₀ table₀ at₀ revisits₀ good₀ view₀ cx₀ row₀ end₀ x₀ coder table at revisits good view cx
     row end x =
-    ReadTo width (pelsTo above width) table₀.entries coder₀ code at₀ revisits₀ good₀ view₀
+    ReadTo width (pels_to above width) table₀.entries coder₀ code at₀ revisits₀ good₀ view₀
     row table.entries coder (parted cx) view at revisits good x
-    × (end ≤ width) × Under (pelsTo above width) x end
+    × (end ≤ width) × Under (pels_to above width) x end
 
 abbrev decreases-loop : tie.decreases-loop
 decreases-loop code above width coder₀ table₀ at₀ revisits₀ good₀ view₀ cx₀ row₀ end₀ x₀ coder table at revisits good view cx
@@ -98,12 +98,12 @@ coded₁ c = coded c.before
 edge : (c : tie.In-loop invariant-loop decreases-loop) → let w = c.before.loop.cx in (w / 4 < 32) × (w % 4 < 4)
 edge c =
     let a = (begin₁ c).args in
-    read-window topEngine topIsEngine topSeven qReader _ _ _ _ _ _ _ _ _ _ _ _ _ _ _ _ _ _ c.before.loop.invariant.0.0
+    read-window top_engine top_is_engine top_seven q_reader _ _ _ _ _ _ _ _ _ _ _ _ _ _ _ _ _ _ c.before.loop.invariant.0.0
     (pels-bits a.above.now a.width)
 
 -- the table is lawful, and few shifts, bytes and revisited pels came with this row
 lawful : (c : tie.In-loop invariant-loop decreases-loop) → LawfulTable c.before.loop.table.entries
-lawful c = read-lawful topEngine topIsEngine topSeven qReader _ _ _ _ _ _ _ _ _ _ _ _ _ _ _ _ _ _
+lawful c = read-lawful top_engine top_is_engine top_seven q_reader _ _ _ _ _ _ _ _ _ _ _ _ _ _ _ _ _ _
     c.before.loop.invariant.0.0
 
 few : (c : tie.In-loop invariant-loop decreases-loop) → let l = c.before.loop in let s = (begin₁ c).args.start in
@@ -111,7 +111,7 @@ few : (c : tie.In-loop invariant-loop decreases-loop) → let l = c.before.loop 
     × (l.revisits ≤ l.coder.count)
 few c =
     let z = up-count _ _ (up c).above.ensures in
-    let k = read-few topEngine topIsEngine topSeven qReader _ _ _ _ _ _ _ _ _ _ _ _ _ _ _ _ _ _
+    let k = read-few top_engine top_is_engine top_seven q_reader _ _ _ _ _ _ _ _ _ _ _ _ _ _ _ _ _ _
     c.before.loop.invariant.0.0 (omega (arith, (begin₁ c).requires.7, z)) in
     (omega (arith, k.0, z), k.1, k.2)
 
@@ -133,8 +133,8 @@ loop-holds c =
     let a = (begin v).args in
     let p = (begin v).requires in (
       (
-        read-start topEngine topIsEngine topSeven qReader _ _ _ _ _ _ _ _ _ _
-            (subst (λ (w : Window). Slid (pelsTo a.above.now a.width) [] 0 w) (sym c.context.ensures.0)
+        read-start top_engine top_is_engine top_seven q_reader _ _ _ _ _ _ _ _ _ _
+            (subst (λ (w : Window). Slid (pels_to a.above.now a.width) [] 0 w) (sym c.context.ensures.0)
             c.before.start.ensures) p.3
             (up-ready _ _ v.before.before.above.ensures p.4) row-none,
         record { within = p.8; near = p.9; small = p.10 },
@@ -213,7 +213,7 @@ context-requires-2 c κs =
     let t = run-turn (run f.before) in
     let a = (begin₁ t).args in
     rw c.white2.ensures
-    (white-small (pelsTo a.above.now a.width) (t.before.loop.x + f.fits2.result)
+    (white-small (pels_to a.above.now a.width) (t.before.loop.x + f.fits2.result)
     (pels-bits a.above.now a.width))
 
 loop-less : tie.Need-loop-smaller invariant-loop decreases-loop
@@ -237,7 +237,7 @@ loop-again c =
     let n = w.before.before.before.before.fits2 in
     let so = r.before.starts-run.ensures r.if1.taken in
     rw (w.before.before.still.ensures, w.before.still2.ensures, c.context2.ensures.0, w.white2.ensures) (
-      read-run a.width (pelsTo a.above.now a.width) s.table.entries _ a.code.now
+      read-run a.width (pels_to a.above.now a.width) s.table.entries _ a.code.now
           s.at s.revisits s.good s.view l.row l.table.entries l.at l.revisits l.good so.0
           (pels-bits a.above.now a.width) (begin₁ t).pre.0 l.coder (parted l.cx) l.view l.x
           u.result
@@ -319,7 +319,7 @@ add_row c =
     let t = pel-turn v in
     let l = t.before.loop in
     let r = (told v).read-pel in
-    let h = read-room topEngine topIsEngine topSeven qReader _ _ _ _ _ _ _ _ _ l.row l.table.entries l.coder
+    let h = read-room top_engine top_is_engine top_seven q_reader _ _ _ _ _ _ _ _ _ l.row l.table.entries l.coder
     (parted l.cx) _ l.at l.revisits l.good l.x l.inv.0.0 r.result.p
     (omega (arith, t.loop-test.taken, (begin₁ t).pre.0)) (told-bit _ _ _ _ _ r.ensures) in
     omega (arith, c.pel-in-byte.ensures.0, h)
@@ -348,7 +348,7 @@ loop-again-2 c =
     let u = ap (λ (w : Window). w.this) c.before.context3.ensures.0 in
     let z = rw c.before.before.before.of.ensures at s.ensures in
     let m = (entered d).before.if1 in
-    let above = pelsTo a.above.now a.width in
+    let above = pels_to a.above.now a.width in
     let cx = l.cx in
     let sum : cx ≡ 4 * (cx / 4) + cx % 4 = omega arith in
     let put : (j.table.entries ≡ set l.table.entries cx v.entry) × (j.at ≡ l.at + v.settled)
@@ -360,12 +360,12 @@ loop-again-2 c =
       w.5 ∙ add-one l.revisits ∙ ap (λ (b : Bool). counted b l.revisits) (sym w.0.taken),
       w.6 ∙ w.1.ensures,
     ))
-    (λ w. let k = pelled-kept topEngine topIsEngine l.coder l.table.entries [] cx l.at l.revisits _
+    (λ w. let k = pelled-kept top_engine top_is_engine l.coder l.table.entries [] cx l.at l.revisits _
     (given v) r.ensures.pelled w.0.left in (
       ap (λ (u : Table). u.entries) w.1 ∙ k.0,
       w.2 ∙ k.2,
       w.3 ∙ k.3,
-      w.4 ∙ match_none topEngine topIsEngine qReader l.coder _ _ (given v) a.code.now l.at l.good
+      w.4 ∙ match_none top_engine top_is_engine q_reader l.coder _ _ (given v) a.code.now l.at l.good
           r.ensures.pelled w.0.left,
     )) j.branch in
     let reach : (m.end ≤ a.width) × Under above l.x m.end
@@ -374,7 +374,7 @@ loop-again-2 c =
     (λ w. subst (λ (z : ℕ). (z ≤ a.width) × Under above l.x z) (sym w.1) (l.inv.1, l.inv.2)) m.came in
     rw add-one (
       (
-        read-turn topEngine topIsEngine topSeven qReader a.width above a.start.table.entries _
+        read-turn top_engine top_is_engine top_seven q_reader a.width above a.start.table.entries _
             a.code.now a.start.at a.start.revisits a.start.good _ l.row l.table.entries
             l.coder (parted l.cx) _ l.at l.revisits l.good l.x l.inv.0.0 (given v)
             t.loop-test.taken (begin₁ t).pre.0 r.result.expected cx r.result.p y.result _
@@ -403,7 +403,7 @@ returns c =
     rw c.bottom.ensures
     (record {
       done = read_down _ _ v.before.before.above.ensures _ _ _ _ _ _ _ _ _ _ _ b.args.start.view _ _
-          (read_whole topEngine topIsEngine topSeven qReader _ _ _ _ _ _ _ _ _ _ _ _ _ _ _ _ _ _ i.0 b.pre.2 w);
+          (read_whole top_engine top_is_engine top_seven q_reader _ _ _ _ _ _ _ _ _ _ _ _ _ _ _ _ _ _ i.0 b.pre.2 w);
       packed = subst (Row l.row) w i.0.packed;
       sight = i.1;
     })

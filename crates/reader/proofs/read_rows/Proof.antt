@@ -6,7 +6,7 @@ use native.Mathlib.Numerals.{add-one}
 use native.Mathlib.Omega.{arith}
 use borrow.Author.Rules.{rules}
 use lib.ListN.{length}
-use Rattle.limits.specs.Limits.{maxRows, lastBytes}
+use Rattle.limits.specs.Limits.{max_rows, last_bytes}
 use Rattle.reader.specs.Reads.{BandRead}
 use Rattle.reader.proofs.RowsRead.{reads-start, reads-few, reads-again, next-room}
 use Rattle.reader.proofs.read_rows.Statement.{statement}
@@ -16,7 +16,7 @@ use mathlib.Core.Path.{subst}
 
 abbrev invariant-loop : tie.invariant-loop
 invariant-loop width rows code out₀ bytes above₀ reading₀ y₀ out above reading y =
-    (y ≤ rows) × (length out ≡ length out₀) × (length above ≡ lastBytes)
+    (y ≤ rows) × (length out ≡ length out₀) × (length above ≡ last_bytes)
     × BandRead width above₀ code reading₀.table.entries out₀ above reading out y
 
 abbrev decreases-loop : tie.decreases-loop
@@ -59,7 +59,7 @@ loop-holds c =
     let s = begin c.before.before in
     let a = s.args in
     let v = c.start2 in
-    let n : length a.last ≡ lastBytes = search rules in (
+    let n : length a.last ≡ last_bytes = search rules in (
       omega arith,
       refl,
       n,
@@ -97,7 +97,7 @@ mul-put-row c =
     let s = sized t.before in
     let q = (begin s).pre in
     let m = s.row-bytes in
-    let h : t.before.loop.y ≤ maxRows = omega (arith, t.loop-test.taken, q.2) in
+    let h : t.before.loop.y ≤ max_rows = omega (arith, t.loop-test.taken, q.2) in
     omega (arith, mul-le-mul_right m.result h, m.ensures, q.1)
 
 put-row-requires : tie.Need-put-row-requires invariant-loop decreases-loop

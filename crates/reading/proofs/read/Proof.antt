@@ -5,10 +5,10 @@ use Prim.Native.Nat.{◌≤◌, ◌<◌}
 use native.Mathlib.Omega.{arith}
 use lib.ListN.{length, get_or}
 use borrow.Author.Tests.{not-true, not-false}
-use Rattle.limits.specs.Limits.{maxPages, maxRows}
+use Rattle.limits.specs.Limits.{max_pages, max_rows}
 use Rattle.parts.specs.declared.Parts.{Parts}
-use Rattle.parts.specs.Parts.{asPage, deskOf, parts_of}
-use Rattle.parts.specs.Lines.{noPageLine}
+use Rattle.parts.specs.Parts.{as_page, desk_of, parts_of}
+use Rattle.parts.specs.Lines.{no_page_line}
 use Rattle.parts.proofs.Puts.{page-as}
 use Rattle.desk.specs.Lawful.{within}
 use Rattle.desk.proofs.OpenPages.{LawfulOpen, within_both}
@@ -16,12 +16,12 @@ use Rattle.marker.specs.Marker.{marked}
 use Rattle.desk.specs.Refusals.{damage}
 use Rattle.desk.specs.Calls.{reads}
 use Rattle.desk.specs.Standing.{stand, page_of}
-use Rattle.desk.specs.Tests.{bandOf}
-use Rattle.parts.specs.Replies.{refusedBy, doneBy}
+use Rattle.desk.specs.Tests.{band_of}
+use Rattle.parts.specs.Replies.{refused_by, done_by}
 use Rattle.refusals.proofs.Refusing.{StoodTo, turned-to, standing-to, turns-away, refuses, keeps, clears}
-use Rattle.refusals.proofs.Served.{pageIn, page-is, open_in, band-done}
+use Rattle.refusals.proofs.Served.{page_in, page-is, open_in, band-done}
 use lib.Dec.{leb}
-use Rattle.limits.specs.Limits.{maxCode}
+use Rattle.limits.specs.Limits.{max_code}
 use Rattle.ground.proofs.Bools.{both}
 use Rattle.reader.specs.declared.Read.{Read}
 use Rattle.reading.proofs.ReadAnswers.{sizes, damage-is, read_number, read-room, read-full}
@@ -75,8 +75,8 @@ whole : (c : tie.After-page-to) → Whole (parts (start c))
 whole c = (checked c).lawful-desk.ensures.1
 
 is-sized : (c : tie.After-page-to) →
-    ((sized c).in-range.result && leb (length (start c).args.code.now) maxCode) ≡ fits (start c)
-is-sized c = ap (λ (b : Bool). b && leb (length (start c).args.code.now) maxCode) (sized c).in-range.ensures
+    ((sized c).in-range.result && leb (length (start c).args.code.now) max_code) ≡ fits (start c)
+is-sized c = ap (λ (b : Bool). b && leb (length (start c).args.code.now) max_code) (sized c).in-range.ensures
 
 -- ---- the page
 returns : tie.Need-returns
@@ -89,40 +89,40 @@ returns c =
     let w = turned-to p (whole s) a.ask.key (fits (start s)) 2 r.result _ _ (checked s).lawful-desk.ensures.0
     (is-sized s) r.ensures.0 _ n in
     turns-away p (whole s) (reads a.ask a.code.now a.out.now) r.result _ c.turned-away.result _ n
-    (read_number (deskOf p) a.ask a.code.now a.out.now ∙ w.1 _) w.0.0 c.turned-away.ensures
+    (read_number (desk_of p) a.ask a.code.now a.out.now ∙ w.1 _) w.0.0 c.turned-away.ensures
     (keeps _ a.out.now w.0)
 
 -- it stands on its page
 there : (c : tie.After-known-told) →
     let b = start (sought c) in
-    StoodTo (deskOf (parts b)) b.args.ask.key (fits b) 2 (slot c)
+    StoodTo (desk_of (parts b)) b.args.ask.key (fits b) 2 (slot c)
 there c =
     let s = sought c in
     let b = start s in
     standing-to (parts b) (whole s) b.args.ask.key (fits b) 2 s.page-to.result _ _
     (checked s).lawful-desk.ensures.0 (is-sized s) s.page-to.ensures.0 _ c.before.stands.given.1
 
-slot-within : (c : tie.After-known-told) → slot c < maxPages
+slot-within : (c : tie.After-known-told) → slot c < max_pages
 slot-within c = rw c.before.stands.given.1 at (sought c).page-to.ensures.1
 
-opened : (c : tie.After-known-told) → LawfulOpen (pageIn (parts (start (sought c))) (slot c))
+opened : (c : tie.After-known-told) → LawfulOpen (page_in (parts (start (sought c))) (slot c))
 opened c =
     let b = start (sought c) in
     open_in (parts b) (whole (sought c)) b.args.ask.key (fits b) (slot c) (there c).stood
 
 met : (c : tie.After-known-told) →
     let b = start (sought c) in
-    page_of (stand (deskOf (parts b)) b.args.ask.key) ≡ pageIn (parts b) (slot c)
+    page_of (stand (desk_of (parts b)) b.args.ask.key) ≡ page_in (parts b) (slot c)
 met c =
     let b = start (sought c) in
     page-is (parts b) (whole (sought c)) b.args.ask.key (fits b) (slot c) (there c).stood
 
 ranged : (c : tie.After-known-told) →
     let n = (start (sought c)).args.ask.rows in
-    (1 ≤ n) × (n ≤ maxRows)
+    (1 ≤ n) × (n ≤ max_rows)
 ranged c =
     let n = (start (sought c)).args.ask.rows in
-    within_both 1 n maxRows (both (within 1 n maxRows) _ (there c).stood.ranges).0
+    within_both 1 n max_rows (both (within 1 n max_rows) _ (there c).stood.ranges).0
 
 -- ---- the band
 mul-entries : tie.Need-overflow-mul-entries
@@ -154,9 +154,9 @@ returns-2 c =
     let r = b.read-band in
     let o = not-true r.result.room c.before.if1.true in
     refuses p (whole (sought f)) (reads a.ask a.code.now a.out.now) 9 c.refused.result _
-    (read-room (deskOf p) a.ask a.code.now a.out.now i t (pageIn p i) m r.result _ r.ensures o)
+    (read-room (desk_of p) a.ask a.code.now a.out.now i t (page_in p i) m r.result _ r.ensures o)
     (λ z. omega arith) c.refused.ensures
-    (read-full (deskOf p) a.ask a.code.now a.out.now i t (pageIn p i) m r.result _ r.ensures o
+    (read-full (desk_of p) a.ask a.code.now a.out.now i t (page_in p i) m r.result _ r.ensures o
     ∙ clears 9 a.out.now refl)
 
 returns-3 : tie.Need-returns-3
@@ -176,9 +176,9 @@ returns-3 c =
     let n = damage-is (marked a.code.now) in
     refuses p (whole (sought f)) (reads a.ask a.code.now a.out.now) (damage (marked a.code.now))
     c.refused2.result _
-    (read-damaged (deskOf p) a.ask a.code.now a.out.now i t (pageIn p i) m r.result _ r.ensures o e)
-    n.0 (c.refused2.ensures ∙ ap (λ (k : ℕ). refusedBy k a.book) c.before.fault.ensures)
-    (damaged-out (deskOf p) a.ask a.code.now a.out.now i t (pageIn p i) m r.result _ r.ensures o e
+    (read-damaged (desk_of p) a.ask a.code.now a.out.now i t (page_in p i) m r.result _ r.ensures o e)
+    n.0 (c.refused2.ensures ∙ ap (λ (k : ℕ). refused_by k a.book) c.before.fault.ensures)
+    (damaged-out (desk_of p) a.ask a.code.now a.out.now i t (page_in p i) m r.result _ r.ensures o e
     ∙ clears _ a.out.now n.1)
 
 put-page-requires : tie.Need-put-page-requires
@@ -201,17 +201,17 @@ returns-4 c =
     let o = not-false r.result.room y.if1.left in
     let e = not-false r.result.good v.if2.left in
     let n = c.before.put-page in
-    let l = band (deskOf p) a.ask a.code.now a.out.now i t (pageIn p i) m r.result _ r.ensures o e in
-    let g = read-gave (deskOf p) a.ask a.code.now a.out.now i t (pageIn p i) m r.result _ r.ensures
+    let l = band (desk_of p) a.ask a.code.now a.out.now i t (page_in p i) m r.result _ r.ensures o e in
+    let g = read-gave (desk_of p) a.ask a.code.now a.out.now i t (page_in p i) m r.result _ r.ensures
     o e in
     band-done p (whole (sought f)) a.ask.key (fits (start (sought f))) i t.stood
-    (reads a.ask a.code.now a.out.now) (bandOf (pageIn p i) a.ask.rows l) l a.out.now _
+    (reads a.ask a.code.now a.out.now) (band_of (page_in p i) a.ask.rows l) l a.out.now _
     c.done.result n.result _ _ refl
-    (read-end (deskOf p) a.ask a.code.now a.out.now i t (pageIn p i) m r.result _ r.ensures o e)
-    (read-effect (deskOf p) a.ask a.code.now a.out.now i t (pageIn p i) m r.result _ r.ensures o e)
-    (page-as (ap (λ (x : Read). asPage (get_or a.book.pages i noPageLine) x.table.entries x.last) g)
-    n.ensures) (c.done.ensures ∙ ap (λ (x : Read). doneBy x.length x.shifts x.revisits n.result) g)
-    (read-lent (deskOf p) a.ask a.code.now a.out.now i t (pageIn p i) m r.result _ r.ensures o e)
+    (read-end (desk_of p) a.ask a.code.now a.out.now i t (page_in p i) m r.result _ r.ensures o e)
+    (read-effect (desk_of p) a.ask a.code.now a.out.now i t (page_in p i) m r.result _ r.ensures o e)
+    (page-as (ap (λ (x : Read). as_page (get_or a.book.pages i no_page_line) x.table.entries x.last) g)
+    n.ensures) (c.done.ensures ∙ ap (λ (x : Read). done_by x.length x.shifts x.revisits n.result) g)
+    (read-lent (desk_of p) a.ask a.code.now a.out.now i t (page_in p i) m r.result _ r.ensures o e)
 
 pub read_spec : {M : Type 1} → statement M
 read_spec =

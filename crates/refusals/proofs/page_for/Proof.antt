@@ -1,6 +1,6 @@
 -- The first three tests, then the search. Assumes nothing.
 use mathlib.Core.Path.{sym, ◌∙◌}
-use Rattle.desk.specs.Lawful.{lawfulKey}
+use Rattle.desk.specs.Lawful.{lawful_key}
 use Rattle.refusals.proofs.StandingOn.{on-found, on_none, stopped, went_on}
 use borrow.Author.Rules.{rules}
 use Rattle.refusals.proofs.page_for.Statement.{statement}
@@ -9,7 +9,7 @@ use Rattle.refusals.proofs.page_for.Tie as tie
 returns : tie.Need-returns
 returns c =
     let a = c.before.before.before.args in (
-      stopped a.good (lawfulKey a.key) a.sized _ c.before.before.early-refusal.result
+      stopped a.good (lawful_key a.key) a.sized _ c.before.before.early-refusal.result
           c.before.before.early-refusal.ensures
           c.if1.true,
       tt,
@@ -19,7 +19,7 @@ returns-2 : tie.Need-returns-2
 returns-2 c =
     let a = c.before.before.before.before.before.args in (
       on_none _ (sym c.before.before.before.find-page.ensures.0 ∙ c.enum_told.given.1)
-          ∙ went_on a.good (lawfulKey a.key) a.sized _
+          ∙ went_on a.good (lawful_key a.key) a.sized _
           (sym c.before.before.before.before.early-refusal.ensures
           ∙ c.before.before.if1.false),
       tt,
@@ -29,7 +29,7 @@ returns-3 : tie.Need-returns-3
 returns-3 c =
     let a = c.before.before.before.before.before.before.args in (
       on-found _ _ (sym c.before.before.before.before.find-page.ensures.0 ∙ c.before.found.given.1)
-          ∙ went_on a.good (lawfulKey a.key) a.sized _
+          ∙ went_on a.good (lawful_key a.key) a.sized _
           (sym c.before.before.before.before.before.early-refusal.ensures
           ∙ c.before.before.before.if1.false),
       rw c.before.found.given.1 at c.before.before.before.before.find-page.ensures.1,

@@ -2,9 +2,9 @@
 use mathlib.Core.Path.{sym, ap, ◌∙◌}
 use Prim.Native.Nat.{◌<◌}
 use native.Mathlib.Omega.{arith}
-use Rattle.limits.specs.Limits.{maxPages}
-use Rattle.desk.specs.Places.{stateFor}
-use Rattle.refusals.specs.Stands.{standingTo}
+use Rattle.limits.specs.Limits.{max_pages}
+use Rattle.desk.specs.Places.{state_for}
+use Rattle.refusals.specs.Stands.{standing_to}
 use Rattle.refusals.proofs.StandingOn.{away-still, other_way, right-way}
 use borrow.Author.Rules.{rules}
 use Rattle.refusals.proofs.page_to.Statement.{statement}
@@ -29,12 +29,12 @@ returns : tie.Need-returns
 returns c =
     let a = c.before.before.before.args in
     let s = c.before.before.page-for in (
-      away-still a.t4 (stateFor a.direction) s.result _ c.enum_told.given.1
-          ∙ ap (standingTo a.t4 (stateFor a.direction)) s.ensures.0,
+      away-still a.t4 (state_for a.direction) s.result _ c.enum_told.given.1
+          ∙ ap (standing_to a.t4 (state_for a.direction)) s.ensures.0,
       s.ensures.1,
     )
 
-slot-within : (c : tie.After-known-told) → slot c < maxPages
+slot-within : (c : tie.After-known-told) → slot c < max_pages
 slot-within c = rw c.before.stands.given.1 at (sought c).page-for.ensures.1
 
 returns-2 : tie.Need-returns-2
@@ -43,9 +43,9 @@ returns-2 c =
     let f = found d in
     let a = (sought f).before.args in
     let s = (sought f).page-for in (
-      other_way a.t4 (stateFor a.direction) s.result _ f.before.stands.given.1
+      other_way a.t4 (state_for a.direction) s.result _ f.before.stands.given.1
           (λ e. c.if1.true (e ∙ sym d.state-for.ensures))
-          ∙ ap (standingTo a.t4 (stateFor a.direction)) s.ensures.0,
+          ∙ ap (standing_to a.t4 (state_for a.direction)) s.ensures.0,
       tt,
     )
 
@@ -55,9 +55,9 @@ returns-3 c =
     let f = found d in
     let a = (sought f).before.args in
     let s = (sought f).page-for in (
-      right-way a.t4 (stateFor a.direction) s.result _ f.before.stands.given.1
+      right-way a.t4 (state_for a.direction) s.result _ f.before.stands.given.1
           (c.if1.false ∙ d.state-for.ensures)
-          ∙ ap (standingTo a.t4 (stateFor a.direction)) s.ensures.0,
+          ∙ ap (standing_to a.t4 (state_for a.direction)) s.ensures.0,
       slot-within f,
     )
 

@@ -13,27 +13,27 @@ use Rattle.estimate.specs.Estimate.{LawfulTable}
 use Rattle.estimate.proofs.LawfulEntries.{row_sized}
 use Rattle.octets.proofs.OnePel.{low_fits}
 use Rattle.store.specs.Store.{stores}
-use Rattle.template.specs.Pels.{pelsTo}
+use Rattle.template.specs.Pels.{pels_to}
 use Rattle.template.specs.White.{Clear}
 use Rattle.template.proofs.White.{clear_none, clear_later}
 use Rattle.template.proofs.Sliding.{pels-bits, slid-context}
 use Rattle.estimate.specs.declared.Table.{Table}
 use Rattle.engine.proofs.Coded.{pelled-kept}
-use Rattle.row.specs.QEngine.{qEngine}
+use Rattle.row.specs.QEngine.{q_engine}
 use Rattle.row.specs.WrittenRow.{given}
-use Rattle.row.proofs.QEngine.{qIsEngine}
-use Rattle.row.proofs.WrittenRow.{qSeven, RowAt, row-start, row-again, row_done, row-window, row_lawful}
+use Rattle.row.proofs.QEngine.{q_is_engine}
+use Rattle.row.proofs.WrittenRow.{q_seven, RowAt, row-start, row-again, row_done, row-window, row_lawful}
 use Rattle.row.proofs.WrittenRow.{row_count, row-place, row-revisits, row-length}
-use Rattle.row.proofs.WrittenRuns.{qStills, row-run}
+use Rattle.row.proofs.WrittenRuns.{q_stills, row-run}
 use Rattle.row.proofs.write_row.Statement.{statement}
 use Rattle.row.proofs.write_row.Tie as tie
 use Prim.Native.Nat.{◌≤◌, ◌<◌}
 
 abbrev invariant-loop : tie.invariant-loop
 invariant-loop row above width out₀ coder₀ table₀ at₀ revisits₀ window₀ end₀ x₀ out coder table at revisits window end x =
-    RowAt qEngine qIsEngine qSeven width (pelsTo above width) row table₀.entries coder₀ out₀ at₀ revisits₀
+    RowAt q_engine q_is_engine q_seven width (pels_to above width) row table₀.entries coder₀ out₀ at₀ revisits₀
     table.entries coder window out at revisits x
-    × Clear row (pelsTo above width) width x end
+    × Clear row (pels_to above width) width x end
 
 abbrev decreases-loop : tie.decreases-loop
 decreases-loop row above width out₀ coder₀ table₀ at₀ revisits₀ window₀ end₀ x₀ out coder table at revisits window end x =
@@ -73,21 +73,21 @@ pel-turn c = turn (looked c)
 edge : (c : tie.In-loop invariant-loop decreases-loop) → let w = c.before.loop.window in (w.above < 32) × (w.this < 4)
 edge c =
     let a = (begin₁ c).args in
-    row-window qEngine qIsEngine qSeven _ _ _ _ _ _ _ _ _ _ _ _ _ _ _ c.before.loop.invariant.0
+    row-window q_engine q_is_engine q_seven _ _ _ _ _ _ _ _ _ _ _ _ _ _ _ c.before.loop.invariant.0
     (pels-bits a.above.now a.width)
 
 -- the table is lawful, and few shifts, bytes and revisited pels came with this row
 lawful : (c : tie.In-loop invariant-loop decreases-loop) → LawfulTable c.before.loop.table.entries
-lawful c = row_lawful qEngine qIsEngine qSeven _ _ _ _ _ _ _ _ _ _ _ _ _ _ _ c.before.loop.invariant.0
+lawful c = row_lawful q_engine q_is_engine q_seven _ _ _ _ _ _ _ _ _ _ _ _ _ _ _ c.before.loop.invariant.0
 
 few : (c : tie.In-loop invariant-loop decreases-loop) → let l = c.before.loop in let s = (begin₁ c).args.start in
     (l.coder.interval.count ≤ s.coder.interval.count + 12 * l.x) × (l.at ≤ s.at + 2 * l.x)
     × (l.revisits ≤ l.coder.interval.count)
 few c =
     let i = c.before.loop.invariant.0 in (
-      row_count qEngine qIsEngine qSeven _ _ _ _ _ _ _ _ _ _ _ _ _ _ _ i,
-      row-place qEngine qIsEngine qSeven _ _ _ _ _ _ _ _ _ _ _ _ _ _ _ i,
-      row-revisits qEngine qIsEngine qSeven _ _ _ _ _ _ _ _ _ _ _ _ _ _ _ i (begin₁ c).requires.8,
+      row_count q_engine q_is_engine q_seven _ _ _ _ _ _ _ _ _ _ _ _ _ _ _ i,
+      row-place q_engine q_is_engine q_seven _ _ _ _ _ _ _ _ _ _ _ _ _ _ _ i,
+      row-revisits q_engine q_is_engine q_seven _ _ _ _ _ _ _ _ _ _ _ _ _ _ _ i (begin₁ c).requires.8,
     )
 
 -- ---- the answers
@@ -97,7 +97,7 @@ start-requires c κs = omega arith
 loop-holds : tie.Need-loop-init invariant-loop decreases-loop
 loop-holds c =
     let p = (begin c.before).pre in (
-      row-start qEngine qIsEngine qSeven _ _ _ _ _ _ _ _ _ c.start.ensures p.4 p.5,
+      row-start q_engine q_is_engine q_seven _ _ _ _ _ _ _ _ _ c.start.ensures p.4 p.5,
       clear_none _ _ _ _ _ (omega arith) (omega arith),
     )
 
@@ -184,7 +184,7 @@ loop-again c =
     let n = c.before.before.before.fits2 in
     let so = r.before.starts-run.ensures r.if1.taken in
     rw (c.before.still.ensures, c.white2.ensures) (
-      row-run qEngine qIsEngine qStills qSeven a.width (pelsTo a.above.now a.width) a.row.now _ _ _ _ _
+      row-run q_engine q_is_engine q_stills q_seven a.width (pels_to a.above.now a.width) a.row.now _ _ _ _ _
           l.table.entries _ _ _ so.0 (pels-bits a.above.now a.width) l.coder l.window l.x
           u.result n.result _ l.inv.0 so.1 u.ensures.1 u.ensures.0 n.ensures.0
           (ap (λ (z : ℕ). n.result * z) q.ensures)
@@ -241,7 +241,7 @@ loop-again-2 c =
     let j = c.before.if3 in
     let s = c.slide in
     let m = c.before.before.before.before.before.if1 in
-    let above = pelsTo a.above.now a.width in
+    let above = pels_to a.above.now a.width in
     let cx = 4 * l.window.above + l.window.this in
     let put : (j.table.entries ≡ set l.table.entries cx v.result.entry)
     × (j.out ≡ stores l.out l.at (given v.result).bytes)
@@ -253,7 +253,7 @@ loop-again-2 c =
       w.7 ∙ w.2.ensures.0,
       w.8 ∙ add-one l.revisits ∙ ap (λ (s : Bool). counted s l.revisits) (sym w.0.taken),
     ))
-    (λ w. let k = pelled-kept qEngine qIsEngine l.coder l.table.entries l.out cx l.at l.revisits _
+    (λ w. let k = pelled-kept q_engine q_is_engine l.coder l.table.entries l.out cx l.at l.revisits _
     (given v.result) v.ensures w.0.left in
     (ap (λ (u : Table). u.entries) w.2 ∙ k.0, w.1 ∙ k.1, w.3 ∙ k.2, w.4 ∙ k.3)) j.branch in
     let reach : Clear a.row.now above a.width l.x m.end
@@ -261,7 +261,7 @@ loop-again-2 c =
     (λ w. subst (λ (z : ℕ). Clear a.row.now above a.width l.x z) (sym w.6) w.1.ensures.1)
     (λ w. subst (λ (z : ℕ). Clear a.row.now above a.width l.x z) (sym w.1) l.inv.1) m.branch in
     rw add-one (
-      row-again qEngine qIsEngine qSeven a.width above a.row.now _ _ _ _ _ l.table.entries l.coder
+      row-again q_engine q_is_engine q_seven a.width above a.row.now _ _ _ _ _ l.table.entries l.coder
           l.window l.out l.at l.revisits l.x l.inv.0 (given v.result) t.loop-test.taken cx
           p.result j.table.entries s.result j.out j.at j.revisits
           (pels-bits a.above.now a.width) (slid-context _ _ _ _ l.inv.0.slid) p.ensures.0 v.ensures
@@ -270,11 +270,11 @@ loop-again-2 c =
     )
 
 same_length : tie.Need-same-length invariant-loop decreases-loop
-same_length c = row-length qEngine qIsEngine qSeven _ _ _ _ _ _ _ _ _ _ _ _ _ _ _ c.before.loop.invariant.0
+same_length c = row-length q_engine q_is_engine q_seven _ _ _ _ _ _ _ _ _ _ _ _ _ _ _ c.before.loop.invariant.0
 
 returns : tie.Need-returns invariant-loop decreases-loop
 returns c =
-    row_done qEngine qIsEngine qSeven _ _ _ _ _ _ _ _ _ _ _ _ _ _ _ c.before.loop.invariant.0
+    row_done q_engine q_is_engine q_seven _ _ _ _ _ _ _ _ _ _ _ _ _ _ _ c.before.loop.invariant.0
     (begin c.before.before.before).pre.3 (omega (arith, c.before.loop.invariant.0.passed))
 
 pub write-row-spec : {M : Type 1} → statement M

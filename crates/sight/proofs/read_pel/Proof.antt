@@ -3,16 +3,16 @@ use mathlib.Core.Path.{◌≡◌, refl, sym, ap, ◌∙◌}
 use Prim.Native.Nat.{ℕ, ◌-◌}
 use native.Mathlib.Omega.{arith}
 use mathlib.Core.Bool.{true, false}
-use Rattle.estimate.specs.Estimate.{rowOf}
+use Rattle.estimate.specs.Estimate.{row_of}
 use Rattle.estimate.proofs.LawfulEntries.{row_sized}
 use Rattle.interval.proofs.Growing.{doublings-few}
 use Rattle.exact.proofs.Reader.{decide_true, decide-false}
-use Rattle.top_row.specs.TopRow.{movedPel}
+use Rattle.top_row.specs.TopRow.{moved_pel}
 use Rattle.top_row.proofs.TopPels.{pelled-moved}
 use Rattle.sight.specs.declared.View.{View}
 use Rattle.sight.specs.Views.{sight_of}
 use Rattle.sight.proofs.Views.{told_moved, part_small}
-use Rattle.sight.specs.Still.{viewBy}
+use Rattle.sight.specs.Still.{view_by}
 use Rattle.sight.proofs.Still.{told-still}
 use borrow.Author.Rules.{rules}
 use Rattle.sight.proofs.read_pel.Statement.{statement}
@@ -37,11 +37,11 @@ taken c = c.before.before.before
 
 -- ---- what is in sight tells the expected pel, or the other
 enough : (c : tie.Then1) → let a = (begin c.before.before).args in
-    rowOf a.e * 2 ^ a.view.look ≤ a.view.x
+    row_of a.e * 2 ^ a.view.look ≤ a.view.x
 enough c = rw (c.before.before.power.ensures, c.before.before.before.row_of.ensures) at c.if1.true
 
 short : (c : tie.Else1) → let a = (begin c.before.before).args in
-    a.view.x < rowOf a.e * 2 ^ a.view.look
+    a.view.x < row_of a.e * 2 ^ a.view.look
 short c = rw (c.before.before.power.ensures, c.before.before.before.row_of.ensures) at c.if1.false
 
 -- ---- the answers
@@ -110,13 +110,13 @@ returns-2 c =
     let s = k.still in
     let n = c.before.before.next-entry in
     let w = a.coder.width in
-    let r : s.result ≡ viewBy (rowOf a.e) a.view = s.ensures ∙ ap (λ (n : ℕ). viewBy n a.view) q in
+    let r : s.result ≡ view_by (row_of a.e) a.view = s.ensures ∙ ap (λ (n : ℕ). view_by n a.view) q in
     let d = c.before.before.before.advance in
     rw c.before.moved-pel.ensures
-    (told_moved a.coder a.view a.code.now a.e true _ (movedPel l.pel.result n.result) s.result
+    (told_moved a.coder a.view a.code.now a.e true _ (moved_pel l.pel.result n.result) s.result
     d.result _ (decide_true _ (sight_of a.view w a.code.now) (enough k.before)) c.pel-told2.ensures.0
     (pelled-moved a.coder a.e true l.pel.result _ (omega (arith, q, l.before.if2.false)) v.0 v.1
-    v.2 n.ensures) (ap (λ (u : View). sight_of u (w - rowOf a.e) a.code.now) (sym r)) v.3 d.ensures.0
+    v.2 n.ensures) (ap (λ (u : View). sight_of u (w - row_of a.e) a.code.now) (sym r)) v.3 d.ensures.0
     d.ensures.1 d.ensures.2 d.ensures.3)
 
 pel-requires-2 : tie.Need-pel-requires-2
@@ -148,7 +148,7 @@ returns-3 c =
     let w = a.coder.width in
     let d = c.before.before.before.advance2 in
     rw c.before.moved-pel2.ensures
-    (told_moved a.coder a.view a.code.now a.e false _ (movedPel l.pel2.result n.result) a.view
+    (told_moved a.coder a.view a.code.now a.e false _ (moved_pel l.pel2.result n.result) a.view
     d.result _ (decide-false _ (sight_of a.view w a.code.now) (short l.before)) c.pel-told3.ensures.0
     (pelled-moved a.coder a.e false l.pel2.result _ (omega (arith, (row_sized a.e).small)) v.0 v.1
     v.2 n.ensures) refl v.3 d.ensures.0 d.ensures.1 d.ensures.2 d.ensures.3)

@@ -5,7 +5,7 @@ use native.Mathlib.Numerals.{add-one}
 use native.Mathlib.Omega.{arith}
 use borrow.Author.Rules.{rules}
 use lib.ListN.{length}
-use Rattle.limits.specs.Limits.{lastBytes}
+use Rattle.limits.specs.Limits.{last_bytes}
 use lib.Seq.{paste, paste-zero, paste-suc, length-paste}
 use Rattle.store.proofs.put_row.Statement.{statement}
 use Rattle.store.proofs.put_row.Tie as tie
@@ -33,7 +33,7 @@ slice-write-out : tie.Need-slice-write-out invariant-loop decreases-loop
 slice-write-out c =
     let a = c.before.before.args in
     let l = c.before.loop in
-    let n : length a.t3 ≡ lastBytes = search rules in
+    let n : length a.t3 ≡ last_bytes = search rules in
     let e = ap length l.invariant.1 ∙ length-paste a.out.now a.from a.t3 l.i (omega arith) (omega arith) in
     omega arith
 
@@ -50,7 +50,7 @@ loop-again : tie.Need-loop-preserved invariant-loop decreases-loop
 loop-again c =
     let a = c.before.before.args in
     let l = c.before.loop in
-    let n : length a.t3 ≡ lastBytes = search rules in (
+    let n : length a.t3 ≡ last_bytes = search rules in (
       omega arith,
       rw (add-one, l.invariant.1) (paste-suc a.out.now a.from a.t3 l.i 0 (omega arith)
           (omega arith)),
@@ -61,7 +61,7 @@ same_length : tie.Need-same-length invariant-loop decreases-loop
 same_length c =
     let a = c.before.before.args in
     let l = c.before.loop in
-    let n : length a.t3 ≡ lastBytes = search rules in
+    let n : length a.t3 ≡ last_bytes = search rules in
     let e = ap length l.invariant.1 ∙ length-paste a.out.now a.from a.t3 l.i (omega arith) (omega arith) in
     e
 

@@ -9,7 +9,7 @@ use Rattle.store.proofs.put_two.Tie as tie
 use mathlib.Core.Path.{ap₂}
 use mathlib.Core.List.{List}
 use Prim.Native.Nat.{ℕ}
-use Rattle.store.specs.Store.{storeAt}
+use Rattle.store.specs.Store.{store_at}
 
 -- ---- the stations of two bytes: each is a place passed on the way, seen from a later one
 -- all begins, seen from where the first byte is put
@@ -49,7 +49,7 @@ returns-3 c =
     let q = c.before.before.put2 in
     let a = (begin f).args in
     let n : a.n ≡ 2 = omega arith in
-    let put : List ℕ → ℕ → List ℕ = λ out at. storeAt out at a.second in
+    let put : List ℕ → ℕ → List ℕ = λ out at. store_at out at a.second in
     rw n (omega arith, q.ensures.1 ∙ ap₂ put p.ensures.1 (p.ensures.0 ∙ add-one _))
 
 pub put-two-spec : {M : Type 1} → statement M

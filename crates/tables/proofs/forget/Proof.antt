@@ -6,10 +6,10 @@ use native.Mathlib.Omega.{arith}
 use borrow.Author.Tests.{not-true, not-false}
 use Rattle.parts.specs.declared.Parts.{Parts}
 use Rattle.parts.specs.declared.Sought.TheVariants.{Used, Learned}
-use Rattle.parts.specs.Parts.{deskOf, parts_of}
-use Rattle.desk.specs.Places.{isFound, pageFound, tableFound}
+use Rattle.parts.specs.Parts.{desk_of, parts_of}
+use Rattle.desk.specs.Places.{is_found, page_found, table_found}
 use Rattle.parts.proofs.Lines.{find-pages, find-places}
-use Rattle.desk.specs.Lawful.{lawfulKey, lawful}
+use Rattle.desk.specs.Lawful.{lawful_key, lawful}
 use Rattle.desk.specs.Calls.{drops}
 use Rattle.refusals.specs.Stands.{early}
 use Rattle.refusals.proofs.Refusing.{refuses, nothing_lent}
@@ -51,10 +51,10 @@ whole c = (checked c).lawful-desk.ensures.1
 
 -- ---- the first tests, of this desk and key
 asked : (c : tie.After-early-refusal) →
-    c.early-refusal.result ≡ early (lawful (deskOf (parts (start c)))) (lawfulKey (start c).args.key) true
+    c.early-refusal.result ≡ early (lawful (desk_of (parts (start c)))) (lawful_key (start c).args.key) true
 asked c =
     c.early-refusal.ensures
-    ∙ ap (λ (g : Bool). early g (lawfulKey (start c).args.key) true) (checked c).lawful-desk.ensures.0
+    ∙ ap (λ (g : Bool). early g (lawful_key (start c).args.key) true) (checked c).lawful-desk.ensures.0
 
 returns : tie.Need-returns
 returns c =
@@ -62,17 +62,17 @@ returns c =
     let n = c.before.if1.true in
     let k = (start s).args.key in
     let p = parts (start s) in
-    refuses p (whole s) (drops k) _ c.refused.result [] (drop-early (deskOf p) k _ (asked s) n) n
+    refuses p (whole s) (drops k) _ c.refused.result [] (drop-early (desk_of p) k _ (asked s) n) n
     c.refused.ensures (nothing_lent _)
 
 -- ---- whether a page is open
 opened : (c : tie.After-is-found) →
     let b = start (admitted c).before in
-    isFound (pageFound (deskOf (parts b)) b.args.key) ≡ c.is_found.result
+    is_found (page_found (desk_of (parts b)) b.args.key) ≡ c.is_found.result
 opened c =
     let s = (admitted c).before in
     let k = (start s).args.key in
-    ap isFound (find-pages (parts (start s)) (whole s) (Used k) ∙ sym c.before.find-page.ensures.0)
+    ap is_found (find-pages (parts (start s)) (whole s) (Used k) ∙ sym c.before.find-page.ensures.0)
     ∙ sym c.is_found.ensures
 
 returns-2 : tie.Need-returns-2
@@ -82,7 +82,7 @@ returns-2 c =
     let k = (start s).args.key in
     let p = parts (start s) in
     refuses p (whole s) (drops k) 3 c.refused2.result []
-    (drop-opened (deskOf p) k _ (asked s) (admitted q).if1.false (opened q ∙ c.before.if2.true)) (λ z. omega arith)
+    (drop-opened (desk_of p) k _ (asked s) (admitted q).if1.false (opened q ∙ c.before.if2.true)) (λ z. omega arith)
     c.refused2.ensures (nothing_lent 3)
 
 goes_on : (c : tie.After-find-place) → (tested c).early-refusal.result ≡ 0
@@ -90,21 +90,21 @@ goes_on c = (admitted (vacant c).before).if1.false
 
 is-vacant : (c : tie.After-find-place) →
     let b = start (tested c) in
-    isFound (pageFound (deskOf (parts b)) b.args.key) ≡ false
+    is_found (page_found (desk_of (parts b)) b.args.key) ≡ false
 is-vacant c = opened (vacant c).before ∙ (vacant c).if2.false
 
 -- ---- where the table is
 finds-table : (c : tie.After-find-place) →
     let b = start (tested c) in
-    tableFound (deskOf (parts b)) b.args.key ≡ c.find-place.result
+    table_found (desk_of (parts b)) b.args.key ≡ c.find-place.result
 finds-table c =
     let s = tested c in
     find-places (parts (start s)) (whole s) (Learned (start s).args.key) ∙ sym c.find-place.ensures.0
 
 is-taught : (c : tie.After-is-found2) →
     let b = start (tested (looked c)) in
-    isFound (tableFound (deskOf (parts b)) b.args.key) ≡ c.is-found2.result
-is-taught c = ap isFound (finds-table (looked c)) ∙ sym c.is-found2.ensures
+    is_found (table_found (desk_of (parts b)) b.args.key) ≡ c.is-found2.result
+is-taught c = ap is_found (finds-table (looked c)) ∙ sym c.is-found2.ensures
 
 returns-3 : tie.Need-returns-3
 returns-3 c =
@@ -114,7 +114,7 @@ returns-3 c =
     let k = (start s).args.key in
     let p = parts (start s) in
     refuses p (whole s) (drops k) 11 c.refused3.result []
-    (drop-untaught (deskOf p) k _ (asked s) (goes_on h) (is-vacant h)
+    (drop-untaught (desk_of p) k _ (asked s) (goes_on h) (is-vacant h)
     (is-taught q ∙ not-true _ c.before.if3.true)) (λ z. omega arith) c.refused3.ensures (nothing_lent 11)
 
 clear-place-requires : tie.Need-clear-place-requires
@@ -130,7 +130,7 @@ returns-4 c =
     let p = parts (start s) in
     let n = c.before.clear-place in
     drop-done p (whole s) k c.done.result h.find-place.result n.result _
-    (drop-end (deskOf p) k _ (asked s) (goes_on h) (is-vacant h) (is-taught o.before ∙ not-false _ o.if3.left))
+    (drop-end (desk_of p) k _ (asked s) (goes_on h) (is-vacant h) (is-taught o.before ∙ not-false _ o.if3.left))
     (sym (finds-table h)) n.ensures c.done.ensures
 
 pub forget-spec : {M : Type 1} → statement M

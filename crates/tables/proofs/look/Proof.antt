@@ -3,14 +3,14 @@ use mathlib.Core.Path.{◌≡◌, refl, sym, ap, ◌∙◌}
 use Prim.Native.Nat.{◌<◌}
 use mathlib.Core.Bool.{Bool, true}
 use native.Mathlib.Omega.{arith}
-use Rattle.limits.specs.Limits.{maxPlaces}
+use Rattle.limits.specs.Limits.{max_places}
 use Rattle.parts.specs.declared.Parts.{Parts}
 use Rattle.desk.specs.declared.Found.TheVariants.{At}
 use Rattle.parts.specs.declared.Sought.TheVariants.{Learned}
-use Rattle.parts.specs.Parts.{deskOf, parts_of}
-use Rattle.desk.specs.Places.{tableFound}
+use Rattle.parts.specs.Parts.{desk_of, parts_of}
+use Rattle.desk.specs.Places.{table_found}
 use Rattle.parts.proofs.Lines.{find-places}
-use Rattle.desk.specs.Lawful.{lawfulKey, lawful}
+use Rattle.desk.specs.Lawful.{lawful_key, lawful}
 use Rattle.desk.specs.Calls.{looks}
 use Rattle.refusals.specs.Stands.{early}
 use Rattle.refusals.proofs.Refusing.{early-plain, refuses, keeps, clears}
@@ -61,10 +61,10 @@ whole c = (checked c).lawful-desk.ensures.1
 
 -- ---- the first tests, of this desk and key
 asked : (c : tie.After-early-refusal) →
-    c.early-refusal.result ≡ early (lawful (deskOf (parts (start c)))) (lawfulKey (start c).args.key) true
+    c.early-refusal.result ≡ early (lawful (desk_of (parts (start c)))) (lawful_key (start c).args.key) true
 asked c =
     c.early-refusal.ensures
-    ∙ ap (λ (g : Bool). early g (lawfulKey (start c).args.key) true) (checked c).lawful-desk.ensures.0
+    ∙ ap (λ (g : Bool). early g (lawful_key (start c).args.key) true) (checked c).lawful-desk.ensures.0
 
 returns : tie.Need-returns
 returns c =
@@ -73,13 +73,13 @@ returns c =
     let a = (start s).args in
     let p = parts (start s) in
     refuses p (whole s) (looks a.key a.out.now) _ c.refused.result _
-    (look-early (deskOf p) a.key _ (asked s) a.out.now n) n c.refused.ensures
-    (keeps _ a.out.now (early-plain (deskOf p) a.key true _ (asked s) n))
+    (look-early (desk_of p) a.key _ (asked s) a.out.now n) n c.refused.ensures
+    (keeps _ a.out.now (early-plain (desk_of p) a.key true _ (asked s) n))
 
 -- ---- where the table is
 finds-table : (c : tie.After-find-place) →
     let b = start (tested c) in
-    tableFound (deskOf (parts b)) b.args.key ≡ c.find-place.result
+    table_found (desk_of (parts b)) b.args.key ≡ c.find-place.result
 finds-table c =
     let s = tested c in
     find-places (parts (start s)) (whole s) (Learned (start s).args.key) ∙ sym c.find-place.ensures.0
@@ -91,16 +91,16 @@ returns-2 c =
     let a = (start s).args in
     let p = parts (start s) in
     refuses p (whole s) (looks a.key a.out.now) 11 c.refused2.result _
-    (look-untaught (deskOf p) a.key _ (asked s) a.out.now (admitted h).if1.false
+    (look-untaught (desk_of p) a.key _ (asked s) a.out.now (admitted h).if1.false
     (finds-table h ∙ c.before.enum_told.given.1)) (λ z. omega arith) c.refused2.ensures
     (keeps 11 a.out.now (λ z. omega arith, refl))
 
 is-taught : (c : tie.After-known-told) →
     let b = start (tested (looked c)) in
-    tableFound (deskOf (parts b)) b.args.key ≡ At (place c)
+    table_found (desk_of (parts b)) b.args.key ≡ At (place c)
 is-taught c = finds-table (looked c) ∙ c.before.i.given.1
 
-place-within : (c : tie.After-known-told) → place c < maxPlaces
+place-within : (c : tie.After-known-told) → place c < max_places
 place-within c = rw c.before.i.given.1 at (looked c).find-place.ensures.1
 
 -- ---- the lent output
@@ -113,7 +113,7 @@ returns-3 c =
     let a = (start s).args in
     let p = parts (start s) in
     refuses p (whole s) (looks a.key a.out.now) 9 c.refused3.result _
-    (look-room (deskOf p) a.key _ (asked s) a.out.now (admitted h).if1.left _ (is-taught f)
+    (look-room (desk_of p) a.key _ (asked s) a.out.now (admitted h).if1.left _ (is-taught f)
     (omega (arith, y.if2.taken))) (λ z. omega arith) c.refused3.ensures
     ((cleared c).clear.ensures ∙ clears 9 a.out.now refl)
 
@@ -126,7 +126,7 @@ returns-4 c =
     let a = (start s).args in
     let p = parts (start s) in
     look-done p (whole s) a.key a.out.now _ c.done.result (place f) (is-taught f)
-    (look-end (deskOf p) a.key _ (asked s) a.out.now (admitted h).if1.left _ (is-taught f)
+    (look-end (desk_of p) a.key _ (asked s) a.out.now (admitted h).if1.left _ (is-taught f)
     (omega (arith, y.if2.left))) c.done.ensures (shown c).show-table.ensures
 
 pub look_spec : {M : Type 1} → statement M

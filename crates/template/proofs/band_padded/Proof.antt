@@ -6,16 +6,16 @@ use borrow.Author.Rules.{rules}
 use borrow.Author.Tests.{not-true, not-false}
 use mathlib.Core.Bool.{true}
 use lib.ListN.{length}
-use Rattle.template.specs.Pels.{rowPadded, bandPadded}
+use Rattle.template.specs.Pels.{row_padded, band_padded}
 use Rattle.template.proofs.Padding.{row_within, row_is, row-long, padded-next, padded-not}
 use Rattle.template.proofs.band_padded.Statement.{statement}
 use Rattle.template.proofs.band_padded.Tie as tie
 use Prim.Native.Nat.{◌+◌}
 use Rattle.template.specs.Pels.{row_at}
-use Rattle.limits.specs.Limits.{maxBand}
+use Rattle.limits.specs.Limits.{max_band}
 
 abbrev invariant-loop : tie.invariant-loop
-invariant-loop pels width rows bytes y₀ y = (y ≤ rows) × (true ≡ bandPadded width pels y)
+invariant-loop pels width rows bytes y₀ y = (y ≤ rows) × (true ≡ band_padded width pels y)
 
 abbrev decreases-loop : tie.decreases-loop
 decreases-loop pels width rows bytes y₀ y = rows - y
@@ -31,7 +31,7 @@ turn c = c.before.before.before
 
 -- ---- what is known in a turn
 inside : (c : tie.In-loop invariant-loop decreases-loop) → let l = c.before in let n = l.before.row-bytes.result in
-    (l.loop.y * n + n ≤ length (begin l).args.pels.now) × (l.loop.y * n + n ≤ maxBand)
+    (l.loop.y * n + n ≤ length (begin l).args.pels.now) × (l.loop.y * n + n ≤ max_band)
 inside c =
     let a = (begin c.before).args in
     let b = c.before.before.row-bytes in
@@ -39,12 +39,12 @@ inside c =
     (omega arith) (omega arith) (omega arith)
 
 judged : (c : tie.After-row-padded invariant-loop decreases-loop) → let a = (begin (turn c)).args in
-    rowPadded a.width (row_at a.width a.pels.now (turn c).loop.y) ≡ c.row-padded.result
+    row_padded a.width (row_at a.width a.pels.now (turn c).loop.y) ≡ c.row-padded.result
 judged c =
     let l = turn c in
     let a = (begin l).args in
     let b = l.before.row-bytes in
-    sym (ap (rowPadded a.width) (row_is a.width a.pels.now b.result l.loop.y b.ensures))
+    sym (ap (row_padded a.width) (row_is a.width a.pels.now b.result l.loop.y b.ensures))
     ∙ sym c.row-padded.ensures
 
 -- ---- the answers
@@ -52,7 +52,7 @@ row-bytes-requires : tie.Need-row-bytes-requires invariant-loop decreases-loop
 row-bytes-requires c κs = search rules
 
 loop-holds : tie.Need-loop-init invariant-loop decreases-loop
-unfolding bandPadded
+unfolding band_padded
 loop-holds c = (omega arith, refl)
 
 mul-from : tie.Need-overflow-mul-from invariant-loop decreases-loop
@@ -104,7 +104,7 @@ returns-2 c =
     let l = c.before.loop in
     let a = (begin c.before).args in
     let e : l.y ≡ a.rows = omega arith in
-    l.invariant.1 ∙ ap (bandPadded a.width a.pels.now) e
+    l.invariant.1 ∙ ap (band_padded a.width a.pels.now) e
 
 pub band-padded-spec : {M : Type 1} → statement M
 band-padded-spec =

@@ -1,7 +1,7 @@
 -- A pel of a packed row is the definition's. Assumes nothing.
 use mathlib.Core.Path.{refl}
 use native.Mathlib.Omega.{arith}
-use Rattle.template.specs.Pels.{pelAt}
+use Rattle.template.specs.Pels.{pel_at}
 use borrow.Author.Rules.{rules}
 use Rattle.template.proofs.pel_at.Statement.{statement}
 use Rattle.template.proofs.pel_at.Tie as tie
@@ -24,7 +24,7 @@ shr-result c = search rules
 
 -- src/lib.rt:18:1
 returns : tie.Need-returns
-unfolding pelAt
+unfolding pel_at
 returns c = (refl, omega arith)
 
 pub pel-at-spec : {M : Type 1} → statement M

@@ -13,7 +13,7 @@ use Rattle.estimate.specs.Estimate.{LawfulTable}
 use Rattle.estimate.proofs.LawfulEntries.{row_sized}
 use Rattle.octets.proofs.OnePel.{low_fits}
 use Rattle.store.specs.Store.{stores}
-use Rattle.template.specs.Pels.{pelsTo}
+use Rattle.template.specs.Pels.{pels_to}
 use Rattle.template.specs.White.{Clear}
 use Rattle.template.proofs.White.{clear_none, clear_later}
 use Rattle.template.proofs.Sliding.{pels-bits, slid-context}
@@ -22,18 +22,18 @@ use Rattle.engine.proofs.Coded.{pelled-kept}
 use Rattle.row.proofs.WrittenRow.{RowAt, row-start, row-again, row_done, row-window, row_lawful}
 use Rattle.row.proofs.WrittenRow.{row_count, row-place, row-revisits, row-length}
 use Rattle.row.proofs.WrittenRuns.{row-run}
-use Rattle.top_row.specs.TopRow.{topEngine, given}
-use Rattle.top_row.proofs.TopEngine.{topIsEngine}
-use Rattle.top_row.proofs.TopPels.{topSeven, topStills, up-ready, up-count, down}
+use Rattle.top_row.specs.TopRow.{top_engine, given}
+use Rattle.top_row.proofs.TopEngine.{top_is_engine}
+use Rattle.top_row.proofs.TopPels.{top_seven, top_stills, up-ready, up-count, down}
 use Rattle.top_row.proofs.write_row.Statement.{statement}
 use Rattle.top_row.proofs.write_row.Tie as tie
 use Prim.Native.Nat.{◌≤◌, ◌<◌}
 
 abbrev invariant-loop : tie.invariant-loop
 invariant-loop row above width out₀ coder₀ table₀ at₀ revisits₀ window₀ end₀ x₀ out coder table at revisits window end x =
-    RowAt topEngine topIsEngine topSeven width (pelsTo above width) row table₀.entries coder₀ out₀ at₀ revisits₀
+    RowAt top_engine top_is_engine top_seven width (pels_to above width) row table₀.entries coder₀ out₀ at₀ revisits₀
     table.entries coder window out at revisits x
-    × Clear row (pelsTo above width) width x end
+    × Clear row (pels_to above width) width x end
 
 abbrev decreases-loop : tie.decreases-loop
 decreases-loop row above width out₀ coder₀ table₀ at₀ revisits₀ window₀ end₀ x₀ out coder table at revisits window end x =
@@ -77,12 +77,12 @@ pel-turn c = turn (looked c)
 edge : (c : tie.In-loop invariant-loop decreases-loop) → let w = c.before.loop.window in (w.above < 32) × (w.this < 4)
 edge c =
     let a = (begin₁ c).args in
-    row-window topEngine topIsEngine topSeven _ _ _ _ _ _ _ _ _ _ _ _ _ _ _ c.before.loop.invariant.0
+    row-window top_engine top_is_engine top_seven _ _ _ _ _ _ _ _ _ _ _ _ _ _ _ c.before.loop.invariant.0
     (pels-bits a.above.now a.width)
 
 -- the table is lawful, and few shifts, bytes and revisited pels came with this row
 lawful : (c : tie.In-loop invariant-loop decreases-loop) → LawfulTable c.before.loop.table.entries
-lawful c = row_lawful topEngine topIsEngine topSeven _ _ _ _ _ _ _ _ _ _ _ _ _ _ _ c.before.loop.invariant.0
+lawful c = row_lawful top_engine top_is_engine top_seven _ _ _ _ _ _ _ _ _ _ _ _ _ _ _ c.before.loop.invariant.0
 
 few : (c : tie.In-loop invariant-loop decreases-loop) → let l = c.before.loop in let s = (begin₁ c).args.start in
     (l.coder.count ≤ s.coder.interval.count + 12 * l.x) × (l.at ≤ s.at + 2 * l.x)
@@ -90,9 +90,9 @@ few : (c : tie.In-loop invariant-loop decreases-loop) → let l = c.before.loop 
 few c =
     let i = c.before.loop.invariant.0 in
     let z = up-count _ _ (up c).above.ensures in (
-      omega (arith, row_count topEngine topIsEngine topSeven _ _ _ _ _ _ _ _ _ _ _ _ _ _ _ i, z),
-      row-place topEngine topIsEngine topSeven _ _ _ _ _ _ _ _ _ _ _ _ _ _ _ i,
-      row-revisits topEngine topIsEngine topSeven _ _ _ _ _ _ _ _ _ _ _ _ _ _ _ i
+      omega (arith, row_count top_engine top_is_engine top_seven _ _ _ _ _ _ _ _ _ _ _ _ _ _ _ i, z),
+      row-place top_engine top_is_engine top_seven _ _ _ _ _ _ _ _ _ _ _ _ _ _ _ i,
+      row-revisits top_engine top_is_engine top_seven _ _ _ _ _ _ _ _ _ _ _ _ _ _ _ i
           (omega (arith, (begin₁ c).requires.8, z)),
     )
 
@@ -108,7 +108,7 @@ start-requires c κs = omega arith
 loop-holds : tie.Need-loop-init invariant-loop decreases-loop
 loop-holds c =
     let p = (begin c.before).pre in (
-      row-start topEngine topIsEngine topSeven _ _ _ _ _ _ _ _ _ c.start.ensures p.4
+      row-start top_engine top_is_engine top_seven _ _ _ _ _ _ _ _ _ c.start.ensures p.4
           (up-ready _ _ c.before.before.above.ensures p.5),
       clear_none _ _ _ _ _ (omega arith) (omega arith),
     )
@@ -196,7 +196,7 @@ loop-again c =
     let n = c.before.before.before.fits2 in
     let so = r.before.starts-run.ensures r.if1.taken in
     rw (c.before.still.ensures, c.white2.ensures) (
-      row-run topEngine topIsEngine topStills topSeven a.width (pelsTo a.above.now a.width) a.row.now _ _ _ _ _
+      row-run top_engine top_is_engine top_stills top_seven a.width (pels_to a.above.now a.width) a.row.now _ _ _ _ _
           l.table.entries _ _ _ so.0 (pels-bits a.above.now a.width) l.coder l.window l.x
           u.result n.result _ l.inv.0 so.1 u.ensures.1 u.ensures.0 n.ensures.0
           (ap (λ (z : ℕ). n.result * z) q.ensures)
@@ -254,7 +254,7 @@ loop-again-2 c =
     let j = c.before.if3 in
     let s = c.slide in
     let m = c.before.before.before.before.before.if1 in
-    let above = pelsTo a.above.now a.width in
+    let above = pels_to a.above.now a.width in
     let cx = 4 * l.window.above + l.window.this in
     let put : (j.table.entries ≡ set l.table.entries cx v.result.entry)
     × (j.out ≡ stores l.out l.at (given v.result).bytes)
@@ -266,7 +266,7 @@ loop-again-2 c =
       w.7 ∙ w.2.ensures.0,
       w.8 ∙ add-one l.revisits ∙ ap (λ (s : Bool). counted s l.revisits) (sym w.0.taken),
     ))
-    (λ w. let k = pelled-kept topEngine topIsEngine l.coder l.table.entries l.out cx l.at l.revisits _
+    (λ w. let k = pelled-kept top_engine top_is_engine l.coder l.table.entries l.out cx l.at l.revisits _
     (given v.result) v.ensures w.0.left in
     (ap (λ (u : Table). u.entries) w.2 ∙ k.0, w.1 ∙ k.1, w.3 ∙ k.2, w.4 ∙ k.3)) j.branch in
     let reach : Clear a.row.now above a.width l.x m.end
@@ -274,7 +274,7 @@ loop-again-2 c =
     (λ w. subst (λ (z : ℕ). Clear a.row.now above a.width l.x z) (sym w.6) w.1.ensures.1)
     (λ w. subst (λ (z : ℕ). Clear a.row.now above a.width l.x z) (sym w.1) l.inv.1) m.branch in
     rw add-one (
-      row-again topEngine topIsEngine topSeven a.width above a.row.now _ _ _ _ _ l.table.entries l.coder
+      row-again top_engine top_is_engine top_seven a.width above a.row.now _ _ _ _ _ l.table.entries l.coder
           l.window l.out l.at l.revisits l.x l.inv.0 (given v.result) t.loop-test.taken cx
           p.result j.table.entries s.result j.out j.at j.revisits
           (pels-bits a.above.now a.width) (slid-context _ _ _ _ l.inv.0.slid) p.ensures.0 v.ensures
@@ -286,7 +286,7 @@ bottom-requires : tie.Need-bottom-requires invariant-loop decreases-loop
 bottom-requires c κs = c.before.loop.invariant.0.done.coded.ready.1
 
 same_length : tie.Need-same-length invariant-loop decreases-loop
-same_length c = row-length topEngine topIsEngine topSeven _ _ _ _ _ _ _ _ _ _ _ _ _ _ _ c.before.before.loop.invariant.0
+same_length c = row-length top_engine top_is_engine top_seven _ _ _ _ _ _ _ _ _ _ _ _ _ _ _ c.before.before.loop.invariant.0
 
 returns : tie.Need-returns invariant-loop decreases-loop
 returns c =
@@ -294,7 +294,7 @@ returns c =
     let t = l.before.before in
     rw c.bottom.ensures
     (down _ _ t.before.above.ensures _ _ _ _ _ _ _ _ _ _ _
-    (row_done topEngine topIsEngine topSeven _ _ _ _ _ _ _ _ _ _ _ _ _ _ _ l.loop.invariant.0 (begin t).requires.3
+    (row_done top_engine top_is_engine top_seven _ _ _ _ _ _ _ _ _ _ _ _ _ _ _ l.loop.invariant.0 (begin t).requires.3
     (omega (arith, l.loop.invariant.0.passed, c.before.loop-test.false))))
 
 pub write-row-spec : {M : Type 1} → statement M

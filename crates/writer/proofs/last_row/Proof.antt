@@ -2,7 +2,7 @@
 use mathlib.Core.Path.{◌≡◌, refl}
 use Prim.Native.Nat.{◌-◌, ◌≤◌}
 use native.Mathlib.Omega.{arith}
-use Rattle.writer.proofs.RowByRow.{rows_fit}
+use Rattle.writer.proofs.RowByRow.{rows_fit_lem}
 use Rattle.writer.proofs.LastRow.{Copied, copy_more, copy-end}
 use Rattle.writer.proofs.last_row.Statement.{statement}
 use Rattle.writer.proofs.last_row.Tie as tie
@@ -27,7 +27,7 @@ mul-from c =
     let a = c.before.before.args in
     let q = c.before.before.requires in
     let b = c.row-bytes in
-    let z = rows_fit a.width a.pels.now
+    let z = rows_fit_lem a.width a.pels.now
     b.result b.ensures a.rows (a.rows - 1) (omega (arith, q.2)) q.3 q.1 q.4 in
     omega (arith, z.0, z.1)
 
@@ -42,7 +42,7 @@ add_row c =
     let q = c.before.before.before.before.requires in
     let b = c.before.before.row-bytes in
     let z
-    = rows_fit a.width a.pels.now b.result b.ensures a.rows (a.rows - 1) (omega (arith, q.2)) q.3
+    = rows_fit_lem a.width a.pels.now b.result b.ensures a.rows (a.rows - 1) (omega (arith, q.2)) q.3
     q.1 q.4 in omega (
       arith,
       z.0,
@@ -58,7 +58,7 @@ shared-slice-read-row c =
     let a = c.before.before.before.before.before.args in
     let q = c.before.before.before.before.before.requires in
     let b = c.before.before.before.row-bytes in
-    let z = rows_fit a.width a.pels.now b.result b.ensures a.rows (a.rows - 1) (omega (
+    let z = rows_fit_lem a.width a.pels.now b.result b.ensures a.rows (a.rows - 1) (omega (
       arith,
       q.2,
     )) q.3 q.1 q.4 in omega (arith, z.0, z.1, c.before.loop-test.true, b.ensures, q.1)
@@ -69,7 +69,7 @@ array-write-row c =
     let a = c.before.before.before.before.before.args in
     let q = c.before.before.before.before.before.requires in
     let b = c.before.before.before.row-bytes in
-    let z = rows_fit a.width a.pels.now b.result b.ensures a.rows (a.rows - 1) (omega (
+    let z = rows_fit_lem a.width a.pels.now b.result b.ensures a.rows (a.rows - 1) (omega (
       arith,
       q.2,
     )) q.3 q.1 q.4 in omega (arith, z.0, z.1, c.before.loop-test.true, b.ensures, q.1)
@@ -80,7 +80,7 @@ add-i c =
     let a = c.before.before.before.before.before.args in
     let q = c.before.before.before.before.before.requires in
     let b = c.before.before.before.row-bytes in
-    let z = rows_fit a.width a.pels.now b.result b.ensures a.rows (a.rows - 1) (omega (
+    let z = rows_fit_lem a.width a.pels.now b.result b.ensures a.rows (a.rows - 1) (omega (
       arith,
       q.2,
     )) q.3 q.1 q.4 in omega (arith, z.0, z.1, c.before.loop-test.true, b.ensures, q.1)
@@ -95,7 +95,7 @@ loop-again c =
     let a = c.before.before.before.before.before.args in
     let q = c.before.before.before.before.before.requires in
     let b = c.before.before.before.row-bytes in
-    let z = rows_fit a.width a.pels.now b.result b.ensures a.rows (a.rows - 1) (omega (
+    let z = rows_fit_lem a.width a.pels.now b.result b.ensures a.rows (a.rows - 1) (omega (
       arith,
       q.2,
     )) q.3 q.1 q.4 in (

@@ -5,7 +5,7 @@ use native.Mathlib.Omega.{arith}
 use borrow.Author.Rules.{rules}
 use mathlib.Core.List.{List}
 use lib.ListN.{length, take, drop}
-use Rattle.template.specs.Pels.{pelsTo}
+use Rattle.template.specs.Pels.{pels_to}
 use Rattle.row.specs.declared.Run.{Run}
 use Rattle.row.specs.WrittenRow.{RowDone}
 use Rattle.writer.proofs.RowByRow.{NextDone, sizes, part-wide, row-part, row_before}
@@ -88,7 +88,7 @@ wide c =
 -- what was done is done to the rows of the band
 done : (c : tie.After-above) (r : Run) (out : List ℕ) → let s = sized c in let a = (begin s).args in
     let n = s.row-bytes.result in let from = a.y * n in
-    RowDone a.width (pelsTo (take (from - (from - n)) (drop (from - n) a.pels.now)) a.width)
+    RowDone a.width (pels_to (take (from - (from - n)) (drop (from - n) a.pels.now)) a.width)
     (take (from + n - from) (drop from a.pels.now)) a.run.table.entries a.run.coder a.out.now
     a.run.at a.run.revisits r.table.entries r.coder out r.at r.revisits
     → NextDone a.width a.pels.now a.run a.out.now r out a.y

@@ -6,13 +6,13 @@ use native.Mathlib.Omega.{arith}
 use borrow.Author.Rules.{rules}
 use lib.ListN.{length}
 use lib.Seq.{length-take-le}
-use Rattle.limits.specs.Limits.{lastBytes}
-use Rattle.template.specs.Pels.{row_at, rowBytes}
+use Rattle.limits.specs.Limits.{last_bytes}
+use Rattle.template.specs.Pels.{row_at, row_bytes}
 use Rattle.octets.specs.Fit.{Ready}
 use Rattle.octets.proofs.Fit.{ready-start}
 use Rattle.writer.specs.RowByRow.{BandAt}
 use Rattle.writer.proofs.RowByRow.{RowsKeep, band-first, start-count}
-use Rattle.writer.proofs.RowByRow.{keep-next, rows_fit, row_inside, band-length, band-few}
+use Rattle.writer.proofs.RowByRow.{keep-next, rows_fit_lem, row_inside, band-length, band-few}
 use Rattle.writer.proofs.write_rows.Statement.{statement}
 use Rattle.writer.proofs.write_rows.Tie as tie
 
@@ -49,8 +49,8 @@ whole : (c : tie.After-row-bytes invariant-loop decreases-loop) → c.row-bytes.
 whole c =
     let a = (begin c).args in
     let q = (begin c).requires in
-    let n = rowBytes a.width in
-    let z = rows_fit a.width a.pels.now n refl a.rows 0 (omega arith) q.3 q.1 q.4 in
+    let n = row_bytes a.width in
+    let z = rows_fit_lem a.width a.pels.now n refl a.rows 0 (omega arith) q.3 q.1 q.4 in
     omega (arith, c.row-bytes.ensures, z.0)
 
 -- the first row
@@ -93,7 +93,7 @@ write-first-requires c κs =
     let q = (begin s).requires in
     let m = s.row-bytes in
     let k = c.before.before.before.start in
-    let n : length a.t2 ≡ lastBytes = search rules in (
+    let n : length a.t2 ≡ last_bytes = search rules in (
       q.1,
       rw (length-take-le m.result a.pels.now (whole s)) (omega (arith, m.ensures)),
       omega (arith, q.1),

@@ -6,20 +6,20 @@ use native.Mathlib.Nat.{mul-le-mul}
 use native.Mathlib.Omega.{arith}
 use lib.ListN.{length, get_or}
 use borrow.Author.Tests.{not-true, not-false}
-use Rattle.limits.specs.Limits.{maxPages, maxRows, lastBytes}
+use Rattle.limits.specs.Limits.{max_pages, max_rows, last_bytes}
 use Rattle.parts.specs.declared.Parts.{Parts}
-use Rattle.parts.specs.Parts.{asPage, deskOf, parts_of}
-use Rattle.parts.specs.Lines.{noPageLine}
+use Rattle.parts.specs.Parts.{as_page, desk_of, parts_of}
+use Rattle.parts.specs.Lines.{no_page_line}
 use Rattle.parts.proofs.Puts.{page-as}
 use Rattle.desk.specs.Lawful.{within}
 use Rattle.desk.proofs.OpenPages.{LawfulOpen, within_both}
 use Rattle.desk.specs.Calls.{writes}
 use Rattle.desk.specs.Standing.{stand, page_of}
-use Rattle.desk.specs.Tests.{bandOf}
-use Rattle.parts.specs.Replies.{doneBy}
+use Rattle.desk.specs.Tests.{band_of}
+use Rattle.parts.specs.Replies.{done_by}
 use Rattle.refusals.proofs.Refusing.{StoodTo, turned-to, standing-to, turns-away, refuses, keeps, clears}
-use Rattle.refusals.proofs.Served.{pageIn, page-is, open_in, band-done}
-use Rattle.template.specs.Pels.{rowBytes, bandPadded}
+use Rattle.refusals.proofs.Served.{page_in, page-is, open_in, band-done}
+use Rattle.template.specs.Pels.{row_bytes, band_padded}
 use Rattle.writer.specs.declared.Wrote.{Wrote}
 use Rattle.writing.proofs.WriteAnswers.{write-number, write-pels, write-padding, write-room, cleared-out}
 use Rattle.writing.proofs.WriteAnswers.{write-end, write-gave, write-lent, write-effect}
@@ -65,7 +65,7 @@ abbrev parts : tie.Start → Parts
 parts c = parts_of c.args.book c.args.working.now c.args.rows.now c.args.learned.now
 
 abbrev fits : tie.Start → Bool
-fits c = within 1 c.args.ask.rows maxRows
+fits c = within 1 c.args.ask.rows max_rows
 
 abbrev slot : tie.After-known-told → ℕ
 slot c = c.before.stands.given.0.0
@@ -84,13 +84,13 @@ returns c =
     let w = turned-to p (whole s) a.ask.key (fits (start s)) 1 r.result _ _ (checked s).lawful-desk.ensures.0
     (sized s).in-range.ensures r.ensures.0 _ n in
     turns-away p (whole s) (writes a.ask a.pels.now a.out.now) r.result _ c.turned-away.result _ n
-    (write-number (deskOf p) a.ask a.pels.now a.out.now ∙ w.1 _) w.0.0 c.turned-away.ensures
+    (write-number (desk_of p) a.ask a.pels.now a.out.now ∙ w.1 _) w.0.0 c.turned-away.ensures
     (keeps _ a.out.now w.0)
 
 -- it stands on its page
 there : (c : tie.After-known-told) →
     let b = start (sought c) in
-    StoodTo (deskOf (parts b)) b.args.ask.key (fits b) 1 (slot c)
+    StoodTo (desk_of (parts b)) b.args.ask.key (fits b) 1 (slot c)
 there c =
     let s = sought c in
     let b = start s in
@@ -98,25 +98,25 @@ there c =
     (checked s).lawful-desk.ensures.0 (sized s).in-range.ensures s.page-to.ensures.0 _
     c.before.stands.given.1
 
-slot-within : (c : tie.After-known-told) → slot c < maxPages
+slot-within : (c : tie.After-known-told) → slot c < max_pages
 slot-within c = rw c.before.stands.given.1 at (sought c).page-to.ensures.1
 
-opened : (c : tie.After-known-told) → LawfulOpen (pageIn (parts (start (sought c))) (slot c))
+opened : (c : tie.After-known-told) → LawfulOpen (page_in (parts (start (sought c))) (slot c))
 opened c =
     let b = start (sought c) in
     open_in (parts b) (whole (sought c)) b.args.ask.key (fits b) (slot c) (there c).stood
 
 met : (c : tie.After-known-told) →
     let b = start (sought c) in
-    page_of (stand (deskOf (parts b)) b.args.ask.key) ≡ pageIn (parts b) (slot c)
+    page_of (stand (desk_of (parts b)) b.args.ask.key) ≡ page_in (parts b) (slot c)
 met c =
     let b = start (sought c) in
     page-is (parts b) (whole (sought c)) b.args.ask.key (fits b) (slot c) (there c).stood
 
 ranged : (c : tie.After-known-told) →
     let n = (start (sought c)).args.ask.rows in
-    (1 ≤ n) × (n ≤ maxRows)
-ranged c = within_both 1 (start (sought c)).args.ask.rows maxRows (there c).stood.ranges
+    (1 ≤ n) × (n ≤ max_rows)
+ranged c = within_both 1 (start (sought c)).args.ask.rows max_rows (there c).stood.ranges
 
 -- ---- the pels' length
 row-bytes-requires : tie.Need-row-bytes-requires
@@ -128,8 +128,8 @@ mul-if1 c =
     let h = opened f in
     let n = (start (sought f)).args.ask.rows in
     let m = c.row-bytes.result in
-    let s : m ≤ lastBytes = omega (arith, c.row-bytes.ensures, h.small) in
-    omega (arith, mul-le-mul {n₁ = n} {m₁ = m} {n₂ = maxRows} {m₂ = lastBytes} (ranged f).1 s)
+    let s : m ≤ last_bytes = omega (arith, c.row-bytes.ensures, h.small) in
+    omega (arith, mul-le-mul {n₁ = n} {m₁ = m} {n₂ = max_rows} {m₂ = last_bytes} (ranged f).1 s)
 
 returns-2 : tie.Need-returns-2
 returns-2 c =
@@ -138,14 +138,14 @@ returns-2 c =
     let a = (start (sought f)).args in
     let p = parts (start (sought f)) in
     refuses p (whole (sought f)) (writes a.ask a.pels.now a.out.now) 6 c.refused.result _
-    (write-pels (deskOf p) a.ask a.pels.now a.out.now _ (there f) _ (met f)
+    (write-pels (desk_of p) a.ask a.pels.now a.out.now _ (there f) _ (met f)
     (λ e. c.before.if1.true (e ∙ ap (λ (k : ℕ). a.ask.rows * k) (sym m.row-bytes.ensures))))
     (λ z. omega arith) c.refused.ensures
     (keeps 6 a.out.now (λ z. omega arith, refl))
 
 is-exact : (c : tie.Else1) →
     let a = (start (sought (found c))).args in
-    length a.pels.now ≡ a.ask.rows * rowBytes (get_or a.book.pages (slot (found c)) noPageLine).width
+    length a.pels.now ≡ a.ask.rows * row_bytes (get_or a.book.pages (slot (found c)) no_page_line).width
 is-exact c =
     let a = (start (sought (found c))).args in
     c.if1.false ∙ ap (λ (m : ℕ). a.ask.rows * m) c.before.row-bytes.ensures
@@ -162,14 +162,14 @@ returns-3 c =
     let a = (start (sought f)).args in
     let p = parts (start (sought f)) in
     refuses p (whole (sought f)) (writes a.ask a.pels.now a.out.now) 8 c.refused2.result _
-    (write-padding (deskOf p) a.ask a.pels.now a.out.now _ (there f) _ (met f) (is-exact l)
+    (write-padding (desk_of p) a.ask a.pels.now a.out.now _ (there f) _ (met f) (is-exact l)
     (sym b.ensures ∙ not-true b.result c.before.if2.true)) (λ z. omega arith) c.refused2.ensures
     (keeps 8 a.out.now (λ z. omega arith, refl))
 
 is-padded : (c : tie.Else2) →
     let f = found (exact c) in
     let a = (start (sought f)).args in
-    bandPadded (get_or a.book.pages (slot f) noPageLine).width a.pels.now a.ask.rows ≡ true
+    band_padded (get_or a.book.pages (slot f) no_page_line).width a.pels.now a.ask.rows ≡ true
 is-padded c = sym c.before.band-padded.ensures ∙ not-false c.before.band-padded.result c.if2.false
 
 -- ---- the band
@@ -192,7 +192,7 @@ write-band-requires c κs =
     let r = ranged (found l) in (h.some, h.small, r.0, r.1, is-exact l, h.table)
 
 returns-4 : tie.Need-returns-4
-unfolding bandOf
+unfolding band_of
 returns-4 c =
     let b = written c.before.before in
     let f = found (exact (padded b)) in
@@ -203,10 +203,10 @@ returns-4 c =
     let q = is-padded (padded b) in
     let e = not-true w.result.room c.before.if3.true in
     refuses p (whole (sought f)) (writes a.ask a.pels.now a.out.now) 9 c.refused3.result _
-    (write-room (deskOf p) a.ask a.pels.now a.out.now _ (there f) _ (met f) l q w.result
+    (write-room (desk_of p) a.ask a.pels.now a.out.now _ (there f) _ (met f) l q w.result
     w.ensures.0 e) (λ z. omega arith) c.refused3.ensures
     (w.ensures.1
-    ∙ cleared-out (deskOf p) a.ask a.pels.now a.out.now _ (there f) _ (met f) l q w.result
+    ∙ cleared-out (desk_of p) a.ask a.pels.now a.out.now _ (there f) _ (met f) l q w.result
     w.ensures.0 e ∙ clears 9 a.out.now refl)
 
 put-page-requires : tie.Need-put-page-requires
@@ -215,7 +215,7 @@ put-page-requires c κs =
     let s = start (sought f) in (slot-within f, s.pre.0, s.pre.1)
 
 returns-5 : tie.Need-returns-5
-unfolding bandOf
+unfolding band_of
 returns-5 c =
     let o = roomy c.before.before in
     let b = written o.before in
@@ -230,17 +230,17 @@ returns-5 c =
     let w = b.write-band in
     let e = not-false w.result.room o.if3.left in
     let n = c.before.put-page in
-    let g = write-gave (deskOf p) a.ask a.pels.now a.out.now i t (pageIn p i) m l q w.result
+    let g = write-gave (desk_of p) a.ask a.pels.now a.out.now i t (page_in p i) m l q w.result
     w.ensures.0 e in
     band-done p (whole (sought f)) a.ask.key (fits (start (sought f))) i t.stood
-    (writes a.ask a.pels.now a.out.now) (bandOf (pageIn p i) a.ask.rows a.pels.now) _ a.out.now _
+    (writes a.ask a.pels.now a.out.now) (band_of (page_in p i) a.ask.rows a.pels.now) _ a.out.now _
     c.done.result n.result _ _ refl
-    (write-end (deskOf p) a.ask a.pels.now a.out.now i t (pageIn p i) m l q w.result w.ensures.0 e)
-    (write-effect (deskOf p) a.ask a.pels.now a.out.now i t (pageIn p i) m)
-    (page-as (ap (λ (r : Wrote). asPage (get_or a.book.pages i noPageLine) r.table.entries r.last) g)
-    n.ensures) (c.done.ensures ∙ ap (λ (r : Wrote). doneBy r.length r.shifts r.revisits n.result) g)
+    (write-end (desk_of p) a.ask a.pels.now a.out.now i t (page_in p i) m l q w.result w.ensures.0 e)
+    (write-effect (desk_of p) a.ask a.pels.now a.out.now i t (page_in p i) m)
+    (page-as (ap (λ (r : Wrote). as_page (get_or a.book.pages i no_page_line) r.table.entries r.last) g)
+    n.ensures) (c.done.ensures ∙ ap (λ (r : Wrote). done_by r.length r.shifts r.revisits n.result) g)
     (w.ensures.1
-    ∙ write-lent (deskOf p) a.ask a.pels.now a.out.now i t (pageIn p i) m l q w.result w.ensures.0 e)
+    ∙ write-lent (desk_of p) a.ask a.pels.now a.out.now i t (page_in p i) m l q w.result w.ensures.0 e)
 
 pub write_spec : {M : Type 1} → statement M
 write_spec =

@@ -7,7 +7,7 @@ use Rattle.interval.specs.Interval.{decision, part_of, coded, doublings}
 use Rattle.octets.specs.declared.Coder.{Coder}
 use Rattle.octets.specs.Octets.{pel}
 use Rattle.octets.specs.Lift.{lift, settled_of}
-use Rattle.top.specs.Top.{bottomOf, within}
+use Rattle.top.specs.Top.{bottom_of, within}
 use Rattle.top.proofs.Moved.{above-bottom, above_holds}
 use Rattle.top.proofs.Pels.{next-coded, top-fits, grow-fits, above-fits, top-few, settle-fits, top-bytes}
 use Rattle.top.proofs.Top.pel.Statement.{statement}
@@ -24,7 +24,7 @@ shifted c = c.before.before.before
 
 -- ---- after the shifts
 next : (c : tie.After-grow) → let a = (begin c).args in
-    bottomOf c.grow.result.coder ≡ within (coded (decision a.q a.expected) (bottomOf a.self).interval)
+    bottom_of c.grow.result.coder ≡ within (coded (decision a.q a.expected) (bottom_of a.self).interval)
     a.self
 next c =
     let p = c.before.part in
@@ -32,14 +32,14 @@ next c =
 
 many : (c : tie.After-grow) → let a = (begin c).args in
     c.grow.result.shifts
-    ≡ doublings 12 (part_of (decision a.q a.expected) (bottomOf a.self).interval).width
+    ≡ doublings 12 (part_of (decision a.q a.expected) (bottom_of a.self).interval).width
 many c =
     c.grow.ensures.2
     ∙ ap (λ (v : Coder). doublings 12 v.interval.width) c.before.part.ensures.0
 
 -- after the bytes
 settled : (c : tie.After-settle) → let a = (begin (shifted c.before)).args in
-    pel (decision a.q a.expected) (lift (bottomOf a.self) [])
+    pel (decision a.q a.expected) (lift (bottom_of a.self) [])
     ≡ lift c.settle.result.coder (settled_of c.settle.result)
 settled c =
     let g = shifted c.before in
