@@ -1,4 +1,6 @@
 // The calls of bands with numbers for what is asked: other languages hand over no records.
+#![tactic(auto)]
+
 ghost use Rattle.parts.specs.Parts.{parts_of, Sized};
 ghost use Rattle.desk.specs.Calls.{writes, reads};
 ghost use Rattle.parts.specs.Replies.{Serves};

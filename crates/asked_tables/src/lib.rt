@@ -1,4 +1,6 @@
 // The calls of tables with numbers for what is asked: other languages hand over no records.
+#![tactic(auto)]
+
 ghost use Rattle.std.specs.Prelude.{◌≡◌, []};
 ghost use Rattle.desk.specs.Places.{empty_desk};
 ghost use Rattle.parts.specs.Parts.{desk_of, parts_of, Sized, Whole};

@@ -1,5 +1,7 @@
 // The limits of document 01, on both sides of each: what is asked, then the answer's number, length, S and revisited
 // pels.
+#![tactic(auto)]
+
 ghost use Rattle.parts.specs.Parts.{Sized};
 
 use limits::{CONTEXTS, PAGES, PLACES, ROW};

@@ -1,4 +1,6 @@
 // The calls that leave a page: close and abandon. The book goes by value; the arrays are lent in place.
+#![tactic(auto)]
+
 ghost use Rattle.std.specs.Prelude.{◌≡◌, []};
 ghost use Rattle.limits.specs.Limits.{max_places};
 ghost use Rattle.parts.specs.Parts.{parts_of, Sized};

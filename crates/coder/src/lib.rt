@@ -1,1 +1,2 @@
 // What is shown once for every coder; all of it stands in specs/.
+#![tactic(auto)]

@@ -1,4 +1,6 @@
 // The calls over a lent desk. Other languages see these calls and no others.
+#![tactic(auto)]
+
 ghost use Rattle.std.specs.Prelude.{◌≡◌, []};
 ghost use Rattle.desk.specs.Places.{empty_desk};
 ghost use Rattle.parts.specs.Parts.{desk_of, Whole};

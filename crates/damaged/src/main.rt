@@ -1,5 +1,7 @@
 // Codes read as one row on a new page. Of width 1, two are codes of a band and every other is damaged, or has a marker;
 // of width 13, a code whose last FF a byte 00 follows; of width 17, two bytes are no room for the row.
+#![tactic(auto)]
+
 ghost use Rattle.parts.specs.Parts.{Sized};
 
 use desk::{Ask, Direction, Key, Opening};

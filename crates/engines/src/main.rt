@@ -1,5 +1,7 @@
 // Bands on a new page, written by the first engine and by the second: each code in hexadecimal, its S and its pels
 // revisited.
+#![tactic(auto)]
+
 ghost use Rattle.std.specs.Prelude.{◌≡◌, ◌*◌, ◌≤◌, length};
 ghost use Rattle.limits.specs.Limits.{max_width, max_rows};
 ghost use Rattle.estimate.specs.Estimate.{LawfulTable};

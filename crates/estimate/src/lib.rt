@@ -1,4 +1,6 @@
 // A table of learned entries, the thirty rows' values, and the next entries.
+#![tactic(auto)]
+
 ghost use Rattle.std.specs.Prelude.{◌≡◌, ◌*◌, ◌≤◌};
 ghost use Rattle.estimate.specs.Estimate.{row_of, fall, next, fresh, LawfulEntry};
 
@@ -6,7 +8,7 @@ use limits::CONTEXTS;
 
 // One entry for each context, 2 × index + sense.
 #[repr(C)]
-#[derive(Drop)]
+#[derive(Clone, Copy)]
 pub struct Table {
     pub entries: [u8; CONTEXTS],
 }

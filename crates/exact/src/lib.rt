@@ -1,1 +1,2 @@
 // Laws of every written code; all of it stands in specs/.
+#![tactic(auto)]

@@ -1,1 +1,2 @@
 // Small laws that every layer uses; all of it stands in specs/.
+#![tactic(auto)]

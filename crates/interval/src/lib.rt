@@ -1,10 +1,12 @@
 // The interval by value: one pel coded, the doublings counted.
+#![tactic(auto)]
+
 ghost use Rattle.std.specs.Prelude.{◌≡◌, ◌*◌, ◌≤◌, ◌<◌, ◌^◌};
 ghost use Rattle.limits.specs.Limits.{max_width, max_shifts};
 ghost use Rattle.interval.specs.Interval.{whole, decision, part_of, grown, doublings, coded};
 
 // The lower end (what of it is in no byte yet), the width, and the shifts so far.
-#[derive(Drop)]
+#[derive(Clone, Copy)]
 pub struct Interval {
     pub low: u64,
     pub width: u64,
@@ -12,7 +14,7 @@ pub struct Interval {
 }
 
 // The interval after a pel, and the shifts of that pel.
-#[derive(Drop)]
+#[derive(Clone, Copy)]
 pub struct Coded {
     pub interval: Interval,
     pub shifts: u64,

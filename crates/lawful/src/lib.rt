@@ -1,5 +1,7 @@
 // Whether a desk is lawful. Every byte of its arrays is looked at, with no early exit, so that the loop is made of
 // vector instructions.
+#![tactic(auto)]
+
 ghost use Rattle.std.specs.Prelude.{◌≡◌, ◌+◌, ◌*◌, ◌≤◌, ◌<◌, length, get_or, drop};
 ghost use Rattle.limits.specs.Limits.{max_width, max_pages, max_places, last_bytes};
 ghost use Rattle.parts.specs.Parts.{as_page, as_place, pages_of, places_of, parts_of, desk_of, Sized, Whole};

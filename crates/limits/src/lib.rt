@@ -1,4 +1,5 @@
 // The limits of document 01, as the code uses them; specs/ has them as the rules do.
+#![tactic(auto)]
 
 // A school or class number is 1 to this.
 pub const MAX_KEY: u64 = 65535;

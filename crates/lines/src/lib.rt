@@ -1,4 +1,6 @@
 // What the programs ask, and what they write: text, numbers, bytes in hexadecimal, answers.
+#![tactic(auto)]
+
 use desk::{Answer, Ask, Direction, Key, Opening};
 use libc::STDOUT_FILENO;
 

@@ -1,4 +1,6 @@
 // A marker in a code: what the coder never writes.
+#![tactic(auto)]
+
 ghost use Rattle.std.specs.Prelude.{◌≡◌};
 ghost use Rattle.marker.specs.Marker.{marked};
 

@@ -1,4 +1,6 @@
 // The byte rules: one pel, and the end.
+#![tactic(auto)]
+
 ghost use Rattle.std.specs.Prelude.{◌≡◌, [], length, take, ℕ, ◌+◌, ◌-◌, ◌*◌, ◌≤◌, ◌<◌, ◌^◌};
 ghost use Rattle.limits.specs.Limits.{max_shifts};
 ghost use Rattle.interval.specs.Interval.{decision, part_of, doublings};
@@ -11,7 +13,7 @@ ghost use Rattle.octets.specs.Runs.{still_by};
 use interval::Interval;
 
 // The registers: the interval, the shifts to go until a byte goes out, and the byte that may still take a carry.
-#[derive(Drop)]
+#[derive(Clone, Copy)]
 pub struct Coder {
     pub interval: Interval,
     pub until: u64,
@@ -20,7 +22,7 @@ pub struct Coder {
 
 // A byte that went out: the byte settled, the byte now held, what is left of the lower end, and the bits that the held
 // byte brought.
-#[derive(Drop)]
+#[derive(Clone, Copy)]
 pub struct Byte {
     pub settled: u8,
     pub held: u64,
@@ -29,7 +31,7 @@ pub struct Byte {
 }
 
 // What a pel gives: the registers, its shifts, and the bytes that it settled, two at the most.
-#[derive(Drop)]
+#[derive(Clone, Copy)]
 pub struct Put {
     pub coder: Coder,
     pub shifts: u64,
@@ -39,7 +41,7 @@ pub struct Put {
 }
 
 // The last bytes, with what follows the very last: `count` of them.
-#[derive(Drop)]
+#[derive(Clone, Copy)]
 pub struct Ended {
     pub bytes: [u8; 6],
     pub count: usize,

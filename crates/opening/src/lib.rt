@@ -1,4 +1,6 @@
 // The call that opens a page. The book goes by value; the arrays are lent in place.
+#![tactic(auto)]
+
 ghost use Rattle.std.specs.Prelude.{◌≡◌, [], ◌<◌};
 ghost use Rattle.limits.specs.Limits.{max_pages};
 ghost use Rattle.parts.specs.Parts.{parts_of, desk_of, Sized, Whole};

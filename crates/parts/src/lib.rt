@@ -1,4 +1,6 @@
 // The desk's parts in memory: the lines of its book, how they are found, and how a page and a place are put.
+#![tactic(auto)]
+
 ghost use Rattle.std.specs.Prelude.{◌≡◌, ◌<◌, length, drop};
 ghost use Rattle.limits.specs.Limits.{max_pages, max_places};
 ghost use Rattle.desk.specs.Places.{no_key, zero_table, unused_page, free_place, empty_desk, same_key, is_under, find_by};
@@ -14,7 +16,7 @@ use limits::{CONTEXTS, PAGES, PLACES, ROW};
 
 // The numbers of an open page, or of an unused slot. state: 0 unused, 1 open to write, 2 open to read.
 #[repr(C)]
-#[derive(Drop)]
+#[derive(Clone, Copy)]
 pub struct PageLine {
     pub state: u64,
     pub key: Key,
@@ -23,7 +25,7 @@ pub struct PageLine {
 
 // The numbers of a class place. state: 0 free, 1 reserved by an open page, 2 learned.
 #[repr(C)]
-#[derive(Drop)]
+#[derive(Clone, Copy)]
 pub struct PlaceLine {
     pub state: u64,
     pub key: Key,
@@ -31,7 +33,7 @@ pub struct PlaceLine {
 
 // The lines of all pages and places: all small numbers. It goes by value.
 #[repr(C)]
-#[derive(Drop)]
+#[derive(Clone, Copy)]
 pub struct Book {
     pub pages: [PageLine; PAGES],
     pub places: [PlaceLine; PLACES],
@@ -48,14 +50,14 @@ pub struct Parts {
 }
 
 // The answer, and the book after the call.
-#[derive(Drop)]
+#[derive(Clone, Copy)]
 pub struct Reply {
     pub answer: Answer,
     pub book: Book,
 }
 
 // What is looked for: what is used under a key, a learned place of a key, or what is free.
-#[derive(Drop)]
+#[derive(Clone, Copy)]
 pub enum Sought {
     Used(Key),
     Learned(Key),

@@ -1,4 +1,6 @@
 // Bands read back: the reader is the writer, told each pel by the code.
+#![tactic(auto)]
+
 ghost use Rattle.std.specs.Prelude.{◌≡◌, false, ◌&&◌, [], ◌∷◌, ◌+◌, ◌-◌, ◌*◌, ◌%◌, ◌≤◌, ◌<◌, ◌^◌, eqb, length, take};
 ghost use Rattle.limits.specs.Limits.{max_width, max_rows, farthest, max_shifts};
 ghost use Rattle.estimate.specs.Estimate.{LawfulTable};
@@ -20,7 +22,7 @@ use top::Top;
 
 // Where a reading stands: the writer's registers, the table, the bytes settled and the pels revisited so far, whether
 // each byte agreed with the code, and what is in sight.
-#[derive(Drop)]
+#[derive(Clone, Copy)]
 pub struct Progress {
     pub coder: Coder,
     pub table: Table,
@@ -31,7 +33,7 @@ pub struct Progress {
 }
 
 // A row read, in the room that a page has for its last row, and where the reading stands then.
-#[derive(Drop)]
+#[derive(Clone, Copy)]
 pub struct Line {
     pub row: [u8; ROW],
     pub reading: Progress,
@@ -163,7 +165,7 @@ pub fn read_row(code: &[u8], above: &[u8], width: usize, start: Progress) -> Lin
 
 // What reading a band gives: whether there was room, whether the code was good, the bytes of all rows, S, the pels
 // revisited, and the table and last row after it.
-#[derive(Drop)]
+#[derive(Clone, Copy)]
 pub struct Read {
     pub room: bool,
     pub good: bool,
@@ -175,7 +177,7 @@ pub struct Read {
 }
 
 // The rows of a band: where the reading stands, and the last of them.
-#[derive(Drop)]
+#[derive(Clone, Copy)]
 pub struct Rows {
     pub reading: Progress,
     pub last: [u8; ROW],

@@ -1,5 +1,7 @@
 // The call that reads a band, and what is told of a code that is no band's. The book goes by value; the arrays are lent
 // in place.
+#![tactic(auto)]
+
 ghost use Rattle.std.specs.Prelude.{◌≡◌};
 ghost use Rattle.marker.specs.Marker.{marked};
 ghost use Rattle.parts.specs.Parts.{parts_of, Sized};

@@ -1,4 +1,6 @@
 // The refusals that calls share, in the order of their numbers' table: 12, 1, 6, then the key's page or 2, then 7.
+#![tactic(auto)]
+
 ghost use Rattle.std.specs.Prelude.{◌≡◌};
 ghost use Rattle.limits.specs.Limits.{max_pages};
 ghost use Rattle.parts.specs.declared.Sought.TheVariants.{Used};
@@ -13,7 +15,7 @@ use limits::PAGES;
 use parts::{Book, PageLine, Reply, Sought};
 
 // Where a call stands that needs an open page: on it, or refused.
-#[derive(Drop)]
+#[derive(Clone, Copy)]
 pub enum Stands {
     On(usize),
     Refused(u64),

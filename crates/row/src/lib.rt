@@ -1,4 +1,6 @@
 // A row written: white runs at once, other pels one by one.
+#![tactic(auto)]
+
 ghost use Rattle.std.specs.Prelude.{◌≡◌, [], ◌+◌, ◌-◌, ◌*◌, ◌%◌, ◌≤◌, ◌<◌, true, length};
 ghost use Rattle.estimate.specs.Estimate.{row_of, LawfulEntry, LawfulTable};
 ghost use Rattle.octets.specs.Fit.{Ready};
@@ -20,7 +22,7 @@ const WIDE: usize = 17;
 
 // What a pel gives: the registers, its context's entry, whether its context's estimate was revisited, that is, whether
 // it shifted, and the bytes settled, two at the most.
-#[derive(Drop)]
+#[derive(Clone, Copy)]
 pub struct Pel {
     pub coder: Coder,
     pub entry: u8,
@@ -31,7 +33,7 @@ pub struct Pel {
 }
 
 // Where a band stands: the registers, the table, the bytes settled and the pels revisited so far.
-#[derive(Drop)]
+#[derive(Clone, Copy)]
 pub struct Run {
     pub coder: Coder,
     pub table: Table,

@@ -1,4 +1,6 @@
 // Two classes of one number, of two schools, at one desk; and what a look shows after a close.
+#![tactic(auto)]
+
 ghost use Rattle.parts.specs.Parts.{Sized};
 
 use desk::Key;

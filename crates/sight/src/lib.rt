@@ -1,4 +1,6 @@
 // What is in sight of a code: the reader is the writer, told each pel by it.
+#![tactic(auto)]
+
 ghost use Rattle.std.specs.Prelude.{◌≡◌, false, [], ℕ, ◌+◌, ◌-◌, ◌*◌, ◌%◌, ◌≤◌, ◌<◌, ◌^◌, length, take, drop, get_or};
 ghost use Rattle.limits.specs.Limits.{max_shifts};
 ghost use Rattle.estimate.specs.Estimate.{LawfulEntry};
@@ -17,7 +19,7 @@ use top_row::TopPel;
 
 // What is in sight of a code: its bits read so far less the low end, how many of them lie ahead, the byte last read,
 // and where the next stands.
-#[derive(Drop)]
+#[derive(Clone, Copy)]
 pub struct View {
     pub x: u64,
     pub look: u64,
@@ -26,14 +28,14 @@ pub struct View {
 }
 
 // A byte of the code, and where the next stands.
-#[derive(Drop)]
+#[derive(Clone, Copy)]
 pub struct Fetched {
     pub byte: u64,
     pub at: usize,
 }
 
 // What a pel gives: whether it was the expected one, the pel itself, what is in sight then, and what the writer gives.
-#[derive(Drop)]
+#[derive(Clone, Copy)]
 pub struct Told {
     pub expected: bool,
     pub p: u8,

@@ -1,4 +1,6 @@
 // Lent buffers: bytes stored at a moving place, a buffer cleared, and the front part handed back.
+#![tactic(auto)]
+
 ghost use Rattle.std.specs.Prelude.{◌≡◌, [], ◌∷◌, ◌+◌, ◌≤◌, ◌<◌, length, take};
 ghost use Rattle.std.proofs.Math.Seq.{paste};
 ghost use Rattle.limits.specs.Limits.{farthest, last_bytes};

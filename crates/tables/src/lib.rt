@@ -1,4 +1,6 @@
 // The calls on a class's learned table. The book goes by value; the arrays are lent in place.
+#![tactic(auto)]
+
 ghost use Rattle.std.specs.Prelude.{◌≡◌, [], ◌≤◌, length};
 ghost use Rattle.limits.specs.Limits.{contexts};
 ghost use Rattle.store.specs.Store.{in_front};

@@ -1,4 +1,6 @@
 // Packed rows, their pels, and the context that slides along a row.
+#![tactic(auto)]
+
 ghost use Rattle.std.specs.Prelude.{◌≡◌, ◌+◌, ◌*◌, ◌%◌, ◌≤◌, ◌<◌, ◌^◌, [], length, get_or};
 ghost use Rattle.limits.specs.Limits.{max_width, max_rows, last_bytes};
 ghost use Rattle.template.specs.Pels.{row_bytes, pel_at, pels_to, row_padded, band_padded};
@@ -185,7 +187,7 @@ pub fn run_to(row: &[u8], above: &[u8], width: usize, x: usize) -> usize
 }
 
 // What a pel's context is made of: the five pels of the row above, the two of this row.
-#[derive(Drop)]
+#[derive(Clone, Copy)]
 pub struct Window {
     pub above: usize,
     pub this: usize,

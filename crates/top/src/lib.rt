@@ -1,5 +1,7 @@
 // The byte rules with the code string at the top of the interval, as software has it: an expected pel with no shift
 // changes the width alone.
+#![tactic(auto)]
+
 ghost use Rattle.std.specs.Prelude.{◌≡◌, [], ◌≤◌, ◌<◌, ◌^◌};
 ghost use Rattle.limits.specs.Limits.{max_shifts};
 ghost use Rattle.interval.specs.Interval.{decision, part_of, grown, doublings};
@@ -13,7 +15,7 @@ use octets::Coder;
 
 // The registers of a coder whose code string points at the top of the interval: what of the top is in no byte yet, the
 // width, the shifts so far, the shifts to go until a byte goes out, and the byte that may still take a carry.
-#[derive(Drop)]
+#[derive(Clone, Copy)]
 pub struct Top {
     pub top: u64,
     pub width: u64,
@@ -23,7 +25,7 @@ pub struct Top {
 }
 
 // What a pel gives: the registers, its shifts, and the bytes that it settled, two at the most.
-#[derive(Drop)]
+#[derive(Clone, Copy)]
 pub struct TopPut {
     pub coder: Top,
     pub shifts: u64,
@@ -33,7 +35,7 @@ pub struct TopPut {
 }
 
 // The registers with all the shifts of a pel done and none of its bytes made, and those shifts.
-#[derive(Drop)]
+#[derive(Clone, Copy)]
 struct TopGrown {
     coder: Top,
     shifts: u64,

@@ -1,5 +1,7 @@
 // A row written with the code string at the top of the interval, from the bottom and back to it: the same loop as in
 // `row`, over the second engine.
+#![tactic(auto)]
+
 ghost use Rattle.std.specs.Prelude.{◌≡◌, [], ◌+◌, ◌*◌, ◌≤◌, ◌<◌, length};
 ghost use Rattle.estimate.specs.Estimate.{row_of, LawfulEntry, LawfulTable};
 ghost use Rattle.octets.specs.Fit.{Ready};
@@ -16,7 +18,7 @@ use top::{Top, TopPut};
 
 // What a pel gives: the registers, its context's entry, whether its context's estimate was revisited, and the bytes
 // settled, two at the most.
-#[derive(Drop)]
+#[derive(Clone, Copy)]
 pub struct TopPel {
     pub coder: Top,
     pub entry: u8,

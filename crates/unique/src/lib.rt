@@ -1,1 +1,2 @@
 // No two bands have one code, and there is one right reader: theorems only.
+#![tactic(auto)]

@@ -1,4 +1,6 @@
 // P1 to P9 of document 01: each band written on a desk, its code in hexadecimal and its S.
+#![tactic(auto)]
+
 ghost use Rattle.parts.specs.Parts.{Sized};
 
 use desk::{Ask, Direction, Key, Opening};

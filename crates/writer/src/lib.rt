@@ -1,4 +1,6 @@
 // Bands written into a lent buffer.
+#![tactic(auto)]
+
 ghost use Rattle.std.specs.Prelude.{◌≡◌, [], ◌+◌, ◌-◌, ◌*◌, ◌≤◌, ◌<◌, true, ◌&&◌, leb, length};
 ghost use Rattle.estimate.specs.Estimate.{LawfulTable};
 ghost use Rattle.octets.specs.Fit.{Ready};
@@ -16,7 +18,7 @@ use octets::Coder;
 use row::Run;
 
 // What writing a band gives: whether there was room, n, S, the pels revisited, and the table and last row after it.
-#[derive(Drop)]
+#[derive(Clone, Copy)]
 pub struct Wrote {
     pub room: bool,
     pub length: usize,

@@ -1,4 +1,6 @@
 // The call that writes a band. The book goes by value; the arrays are lent in place.
+#![tactic(auto)]
+
 ghost use Rattle.parts.specs.Parts.{parts_of, Sized};
 ghost use Rattle.desk.specs.Calls.{writes};
 ghost use Rattle.parts.specs.Replies.{Serves};

@@ -1,23 +1,24 @@
-use Rattle.std.proofs.Common.{rules, ◌≡◌, ◌*◌, ◌≤◌, ℕ, ◌+◌, ◌-◌, ◌<◌, length, ◌/◌, ◌%◌, Bool, true, false, nat_eq, nat_lt, List, [], ◌∷◌, ◌++◌, slice_index_or, slice_set, bit_and, bit_or, Fits, w8, w32, w64, Bor, MutBor}
-use Rattle.estimate.specs.Estimate.{row_of, fall, next, fresh, LawfulEntry}
+-- The next entry is the definition's, case by case. Assumes nothing.
+use native.Mathlib.Omega.{arith}
+use borrow.Author.Rules.{rules}
+use Rattle.estimate.proofs.LawfulEntries.{next-rise, next-top, next-flip, next-fall}
 use Rattle.estimate.proofs.next_entry.Goals as goal
 
--- src/lib.rt:90:9
 pub returns-then-i-lt29 : goal.returns-then-i-lt29
-returns-then-i-lt29 c = ?
+returns-then-i-lt29 c = rw c.if-expected.true (next-rise c.args.e c.if-i-lt29.true)
 
--- src/lib.rt:90:9
 pub returns-else-i-lt29 : goal.returns-else-i-lt29
-returns-else-i-lt29 c = ?
+returns-else-i-lt29 c = rw c.if-expected.true (next-top c.args.e (omega arith) c.if-i-lt29.false)
 
--- src/lib.rt:93:9
 pub returns-then-i-eq0 : goal.returns-then-i-eq0
-returns-then-i-eq0 c = ?
+returns-then-i-eq0 c = rw c.if-expected.false (next-flip c.args.e c.if-i-eq0.true)
 
--- src/lib.rt:95:5
+pub fall_of-requires : goal.fall_of-requires
+fall_of-requires c = omega arith
+
 pub overflow_sub-result-2 : goal.overflow_sub-result-2
-overflow_sub-result-2 c = ?
+overflow_sub-result-2 c = (next-fall c.args.e _ c.fall_of.ensures c.if-i-eq0.false).0
 
--- src/lib.rt:84:1
 pub returns : goal.returns
-returns c = ?
+returns c = rw c.if-expected.false (next-fall c.args.e _ c.fall_of.ensures
+    c.if-i-eq0.false).1

@@ -1,0 +1,6 @@
+-- The window behind a white run. Assumes nothing.
+use borrow.Author.Rules.{rules}
+use Rattle.template.proofs.Window.white.Goals as goal
+
+pub returns : goal.returns
+returns c = rw c.edge_pel-a.ensures.0

@@ -1,0 +1,12 @@
+-- A pel of a row, and 0 past its right edge. Assumes nothing.
+use mathlib.Core.Path.{sym, ◌∙◌}
+use native.Mathlib.Omega.{arith}
+use Rattle.template.proofs.Sliding.{pels-at, pels-past}
+use borrow.Author.Rules.{rules}
+use Rattle.template.proofs.edge_pel.Goals as goal
+
+pub returns-then-x-width : goal.returns-then-x-width
+returns-then-x-width c = (c.pel_at.ensures.0 ∙ sym (pels-at _ _ _ c.if-x-width.true), omega arith)
+
+pub returns : goal.returns
+returns c = (sym (pels-past _ _ _ c.if-x-width.false), omega arith)
