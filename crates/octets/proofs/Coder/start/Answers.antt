@@ -1,0 +1,6 @@
+-- The registers at the start of a band. Assumes nothing.
+use borrow.Author.Rules.{rules}
+use Rattle.octets.proofs.Coder.start.Goals as goal
+
+pub returns : goal.returns
+returns c = rw c.whole-interval.ensures

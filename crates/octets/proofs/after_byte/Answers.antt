@@ -1,0 +1,7 @@
+-- The registers after a byte, field by field. Assumes nothing.
+use mathlib.Core.Path.{refl}
+use borrow.Author.Rules.{rules}
+use Rattle.octets.proofs.after_byte.Goals as goal
+
+pub returns : goal.returns
+returns c = refl
