@@ -8,24 +8,16 @@ use Rattle.interval.specs.declared.Interval.{Interval}
 use Rattle.interval.proofs.Growing.{jumped, grown-jumped}
 use Rattle.top.specs.Top.{bottom_of, within}
 use Rattle.top.proofs.Pels.{raised, raised-holds}
-use Rattle.top.proofs.Top.grow.Statement.{statement}
-use Rattle.top.proofs.Top.grow.Tie as tie
+use Rattle.top.proofs.Top.grow.Goals as goal
 
-returns : tie.Need-returns
-returns c =
-    let b = c.before.before.before.before in
-    let t = b.args.self in
-    let k = c.before.before.before.shifts-for in
+pub returns : goal.returns
+returns c = let t = c.args.self in
+    let k = c.shifts_for-k in
     let top = shl_exact {a = t.top} 26 k.result 64 (omega arith) (omega arith) in
     let width = shl_exact {a = t.width} 13 k.result 64 (omega arith) (omega arith) in (
       raised k.result t _ _ top width
           ∙ ap (λ (n : ℕ). within (jumped n (bottom_of t).interval) t) k.ensures.0
           ∙ sym (ap (λ (i : Interval). within i t) (grown-jumped 12 (bottom_of t).interval)),
-      raised-holds k.result t _ _ top width b.requires.2,
+      raised-holds k.result t _ _ top width c.requires.2,
       k.ensures.0,
     )
-
-pub grow_spec : {M : Type 1} → statement M
-grow_spec =
-    tie.close
-    (tie.spec (λ c κs. search rules) (λ c. search rules) (λ c. search rules) (λ c. search rules) returns)
