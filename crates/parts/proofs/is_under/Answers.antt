@@ -1,0 +1,6 @@
+-- Used, and the same key. Assumes nothing.
+use borrow.Author.Rules.{rules}
+use Rattle.parts.proofs.is_under.Goals as goal
+
+pub returns : goal.returns
+returns c = rw c.same_key.ensures
