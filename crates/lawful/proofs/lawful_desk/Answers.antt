@@ -11,28 +11,23 @@ use Rattle.lawful.specs.Every.{each}
 use Rattle.lawful.specs.Each.{page_right, place_right}
 use Rattle.lawful.proofs.Each.{lawful-each}
 use borrow.Author.Rules.{rules}
-use Rattle.lawful.proofs.lawful_desk.Statement.{statement}
-use Rattle.lawful.proofs.lawful_desk.Tie as tie
+use Rattle.lawful.proofs.lawful_desk.Goals as goal
 
-returns : tie.Need-returns
-returns c =
-    let a = c.before.before.before.before.args in
+pub returns : goal.returns
+returns c = let a = c.args in
     let p : Parts = parts_of a.book a.working.now a.rows.now a.learned.now in
     let w : Whole p = record {
-      pages = c.before.pages-right.ensures.1;
-      places = c.places-right.ensures.1;
-      arrays = c.before.before.before.before.requires;
+      pages = c.pages_right.ensures.1;
+      places = c.places_right.ensures.1;
+      arrays = c.requires;
     } in (
       ap₂ (λ (x y : Bool). x && y)
-          (c.before.pages-right.ensures.0 ∙ ap (λ (z : List PlaceLine). each (page_right z) (desk_of p).pages)
+          (c.pages_right.ensures.0 ∙ ap (λ (z : List PlaceLine). each (page_right z) (desk_of p).pages-1)
           (sym (place-lines-off _ _
           (learned-long p w))))
-          (c.places-right.ensures.0
-          ∙ ap (λ (z : List PageLine). each (place_right z) (desk_of p).places)
+          (c.places_right.ensures.0
+          ∙ ap (λ (z : List PageLine). each (place_right z) (desk_of p).places-1)
           (sym (lines-off _ _ _ (tables-long p w) (rows_long p w))))
           ∙ sym (lawful-each (desk_of p)),
       w,
     )
-
-pub lawful-desk-spec : {M : Type 1} → statement M
-lawful-desk-spec = tie.close (tie.spec (λ c κs. search rules) (λ c κs. search rules) returns)

@@ -1,0 +1,14 @@
+-- The highest so far, and of the rest, is the highest of all. Assumes nothing.
+use mathlib.Core.Path.{refl}
+use Prim.Native.Nat.{◌-◌}
+use native.Mathlib.Omega.{arith}
+use lib.ListN.{length}
+use Rattle.lawful.proofs.HighestByte.{Highest, highest-next, highest-end}
+use borrow.Author.Rules.{rules}
+use Rattle.lawful.proofs.highest.Goals as goal
+
+pub loop-i-preserved : goal.loop-i-preserved
+loop-i-preserved c = highest-next c.loop-i.invariant c.higher-top.result (omega arith) c.higher-top.ensures
+
+pub returns : goal.returns
+returns c = highest-end c.loop-i.invariant (omega arith)

@@ -1,0 +1,6 @@
+-- Unused, or alone and with its place. Assumes nothing.
+use borrow.Author.Rules.{rules}
+use Rattle.lawful.proofs.page_known.Goals as goal
+
+pub returns : goal.returns
+returns c = rw (c.has_page.ensures, c.has_place.ensures)
