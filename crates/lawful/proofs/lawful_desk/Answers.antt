@@ -22,11 +22,11 @@ returns c = let a = c.args in
       arrays = c.requires;
     } in (
       ap₂ (λ (x y : Bool). x && y)
-          (c.pages_right.ensures.0 ∙ ap (λ (z : List PlaceLine). each (page_right z) (desk_of p).pages-1)
+          (c.pages_right.ensures.0 ∙ ap (λ (z : List PlaceLine). each (page_right z) (desk_of p).pages)
           (sym (place-lines-off _ _
           (learned-long p w))))
           (c.places_right.ensures.0
-          ∙ ap (λ (z : List PageLine). each (place_right z) (desk_of p).places-1)
+          ∙ ap (λ (z : List PageLine). each (place_right z) (desk_of p).places)
           (sym (lines-off _ _ _ (tables-long p w) (rows_long p w))))
           ∙ sym (lawful-each (desk_of p)),
       w,

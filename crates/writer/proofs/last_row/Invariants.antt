@@ -1,0 +1,12 @@
+use mathlib.Core.Path.{◌≡◌, refl}
+use Prim.Native.Nat.{◌-◌, ◌≤◌}
+use native.Mathlib.Omega.{arith}
+use Rattle.writer.proofs.RowByRow.{rows_fit_lem}
+use Rattle.writer.proofs.LastRow.{Copied, copy_more, copy-end}
+use Rattle.writer.proofs.last_row.Given as goal
+
+abbrev pub invariant-loop-i : goal.invariant-loop-i
+invariant-loop-i l = (l.i ≤ l.bytes) × Copied l.pels l.from l.row l.i
+
+abbrev pub decreases-loop-i : goal.decreases-loop-i
+decreases-loop-i l = l.bytes - l.i

@@ -1,0 +1,6 @@
+-- The desk's engine is one of the two. Assumes nothing.
+use borrow.Author.Rules.{rules}
+use Rattle.writer.proofs.write_band.Goals as goal
+
+pub returns : goal.returns
+returns c = c.write_by.ensures

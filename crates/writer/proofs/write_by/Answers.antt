@@ -1,0 +1,51 @@
+-- A band is written as defined, or there is no room. Assumes nothing.
+use mathlib.Core.Path.{◌≡◌, sym, ◌∙◌}
+use Prim.Native.Nat.{◌+◌, ◌-◌}
+use native.Mathlib.Omega.{arith}
+use borrow.Author.Rules.{rules}
+use lib.ListN.{length, take}
+use lib.Seq.{length-take-le}
+use Rattle.template.specs.Pels.{row_at}
+use Rattle.writer.proofs.RowByRow.{band-few, with-room, without-room}
+use Rattle.writer.proofs.write_by.Goals as goal
+use Rattle.writer.proofs.write_by.Goals.{After-put_last-n}
+
+-- ---- how many bytes there are
+counts : (c : After-put_last-n) → let f = c.finish-end.result in
+    c.put_last-n.result ≡ c.write_rows-run.result.at + length (take f.count f.bytes)
+counts c =
+    let f = c.finish-end in
+    let n : length f.result.bytes ≡ 6 = search rules in
+    omega (
+      arith,
+      c.put_last-n.ensures.0,
+      length-take-le f.result.count f.result.bytes (omega (arith, f.ensures.2)),
+    )
+
+pub put_last-n-requires : goal.put_last-n-requires
+put_last-n-requires c = let a = c.args in
+    let p = c.requires in
+    let f = band-few a.width a.last a.pels.now a.table.entries a.out.now _ _ _ _ _ _ _
+    c.write_rows-run.ensures p.1 in
+    (c.finish-end.ensures.2, omega (arith, f.1, c.finish-end.ensures.2, p.3))
+
+pub returns-then-has_room : goal.returns-then-has_room
+returns-then-has_room c = let a = c.args in
+    let w = c.write_rows-run in
+    let p = c.put_last-n in
+    with-room a.width a.rows a.last a.pels.now a.table.entries a.out.now
+    (row_at a.width a.pels.now (a.rows - 1)) w.result.table.entries w.result.coder
+    w.last.1.1.1.1.1.0 w.result.at w.result.revisits w.ensures _ c.finish-end.ensures.0 _
+    p.result p.ensures.1 (counts (goal.at.returns-then-has_room c).After-put_last-n) (sym c.has_room.ensures ∙ c.if-has_room.true) a.table _
+    c.last_row-row.ensures
+
+pub returns : goal.returns
+returns c = let a = c.args in
+    let w = c.write_rows-run in
+    let p = c.put_last-n in
+    let z = without-room a.width a.rows a.last a.pels.now a.table.entries a.out.now
+    (row_at a.width a.pels.now (a.rows - 1)) w.result.table.entries w.result.coder
+    w.last.1.1.1.1.1.0 w.result.at w.result.revisits w.ensures _ c.finish-end.ensures.0 _
+    p.result p.ensures.1 (counts (goal.at.returns c).After-put_last-n) (sym c.has_room.ensures ∙ c.if-has_room.false)
+    a.table in
+    (z.0, c.clear.ensures ∙ z.1)
