@@ -35,7 +35,7 @@ returns-then-has_room c = let a = c.args in
     let p = c.put_last-n in
     with-room a.width a.rows a.last a.pels.now a.table.entries a.out.now
     (row_at a.width a.pels.now (a.rows - 1)) w.result.table.entries w.result.coder
-    w.last.1.1.1.1.1.0 w.result.at w.result.revisits w.ensures _ c.finish-end.ensures.0 _
+    w.new.out w.result.at w.result.revisits w.ensures _ c.finish-end.ensures.0 _
     p.result p.ensures.1 (counts (goal.at.returns-then-has_room c).After-put_last-n) (sym c.has_room.ensures ∙ c.if-has_room.true) a.table _
     c.last_row-row.ensures
 
@@ -45,7 +45,7 @@ returns c = let a = c.args in
     let p = c.put_last-n in
     let z = without-room a.width a.rows a.last a.pels.now a.table.entries a.out.now
     (row_at a.width a.pels.now (a.rows - 1)) w.result.table.entries w.result.coder
-    w.last.1.1.1.1.1.0 w.result.at w.result.revisits w.ensures _ c.finish-end.ensures.0 _
+    w.new.out w.result.at w.result.revisits w.ensures _ c.finish-end.ensures.0 _
     p.result p.ensures.1 (counts (goal.at.returns c).After-put_last-n) (sym c.has_room.ensures ∙ c.if-has_room.false)
     a.table in
     (z.0, c.clear.ensures ∙ z.1)

@@ -29,7 +29,7 @@ whole c =
 -- the first row
 begun : (c : After-write_first-run) → let a = c.args in let w = c.write_first-run in
     BandAt a.width a.last a.pels.now a.table.entries a.out.now (row_at a.width a.pels.now 0)
-    w.result.table.entries w.result.coder w.new.1.1.1.1.0 w.result.at w.result.revisits 1
+    w.result.table.entries w.result.coder w.new.out w.result.at w.result.revisits 1
 begun c =
     let a = c.args in
     let q = c.requires in
@@ -107,7 +107,7 @@ loop-y-preserved c = let a = c.args in
     let v = c.write_next-run in (
       omega (arith, l.invariant.0),
       omega (arith, c.loop-y-test.true),
-      v.auto.1.1.1.1.0 ∙ l.invariant.2,
+      v.auto.out ∙ l.invariant.2,
       keep-next a.width a.pels.now _ l.run v.result _ l.out _ l.y _ l.invariant.0
           l.invariant.3 v.ensures (omega (arith, l.invariant.0)),
     )

@@ -1,0 +1,15 @@
+use mathlib.Core.Path.{◌≡◌, refl, ◌∙◌}
+use Prim.Native.Nat.{◌-◌, ◌≤◌}
+use native.Mathlib.Omega.{arith}
+use lib.ListN.{length, length-set}
+use Rattle.limits.specs.Limits.{contexts}
+use Rattle.tables.proofs.Showing.{shown, shown-none, shown-next, shown-all}
+use borrow.Author.Rules.{rules}
+use Rattle.tables.proofs.show_table.Given as goal
+
+abbrev pub invariant-loop-i : goal.invariant-loop-i
+invariant-loop-i l = (l.i ≤ contexts) × (length l.table ≡ contexts) × (l.out ≡ shown l.initial.out l.table l.i)
+    × (length l.out ≡ length l.initial.out)
+
+abbrev pub decreases-loop-i : goal.decreases-loop-i
+decreases-loop-i l = contexts - l.i
