@@ -1,0 +1,9 @@
+-- The call's own contract, of what the numbers ask. Assumes nothing.
+use borrow.Author.Rules.{rules}
+use Rattle.asked_tables.proofs.looked.Goals as goal
+
+pub look-requires : goal.look-requires
+look-requires c = c.requires
+
+pub returns : goal.returns
+returns c = c.look.ensures
