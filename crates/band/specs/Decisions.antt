@@ -1,5 +1,5 @@
 -- The pels of a band as the interval's decisions, for what is said of its bytes and its value. Assumes nothing.
-use Rattle.std.specs.Prelude.{ℕ, ◌-◌, List, [], ◌∷◌, eqb}
+use Rattle.std.specs.Prelude.{ℕ, List, [], ◌∷◌, eqb}
 use Rattle.coder.specs.Writing.{Stage, step, opening}
 use Rattle.coder.specs.Page.{size, sense}
 use Rattle.interval.specs.Interval.{Decision, decision}

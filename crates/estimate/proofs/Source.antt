@@ -1,6 +1,5 @@
 -- Source document 000's table is what our rows and next rows give. Assumes nothing.
 use mathlib.Core.Path.{◌≡◌, refl}
-use Prim.Native.Nat.{◌-◌}
 use mathlib.Core.List.{map}
 use Rattle.estimate.specs.Estimate.{row_of, rise, fall, flip}
 use Rattle.estimate.specs.Source.{source, ruled, numbers_from}

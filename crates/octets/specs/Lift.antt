@@ -3,7 +3,7 @@ use Rattle.std.specs.Prelude.{◌≡◌, ℕ, ◌-◌, ◌*◌, ◌/◌, ◌%◌
 use Rattle.octets.specs.declared.Coder.{Coder}
 use Rattle.octets.specs.declared.Byte.{Byte}
 use Rattle.octets.specs.declared.Put.{Put}
-use Rattle.octets.specs.Octets.{Registers, bits, carried, left, byte}
+use Rattle.octets.specs.Octets.{Registers, bits, carried, left}
 
 abbrev pub lift : Coder → List ℕ → Registers
 lift c xs = record { interval = c.interval; until = c.until; held = c.held; settled = xs }

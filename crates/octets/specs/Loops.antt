@@ -1,5 +1,5 @@
 -- The doublings of a pel, in steps up to the next byte. Assumes nothing.
-use Rattle.std.specs.Prelude.{ℕ, zero, suc, ◌-◌}
+use Rattle.std.specs.Prelude.{ℕ, zero, suc}
 use Rattle.octets.specs.Octets.{Registers, due, double}
 
 -- ---- k doublings

@@ -1,5 +1,5 @@
 -- The registers after expected pels with no shift. Assumes nothing.
-use Rattle.std.specs.Prelude.{ℕ, ◌-◌}
+use Rattle.std.specs.Prelude.{ℕ}
 use Rattle.interval.specs.Interval.{upper_part}
 use Rattle.octets.specs.declared.Coder.{Coder}
 

@@ -1,5 +1,5 @@
 -- Lent buffers: a result in the front, the rest kept; all zero; the front part. Assumes nothing.
-use Rattle.std.specs.Prelude.{ℕ, zero, suc, ◌+◌, ◌-◌, cond, List, [], ◌∷◌, ◌++◌, leb, length, take, drop, set, replicate}
+use Rattle.std.specs.Prelude.{ℕ, zero, suc, cond, List, [], ◌∷◌, ◌++◌, leb, length, take, drop, set, replicate}
 
 -- a result in the front part of a buffer, the rest kept
 unfoldable pub in_front : List ℕ → List ℕ → List ℕ

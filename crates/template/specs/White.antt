@@ -1,5 +1,5 @@
 -- White runs: white pels under white ones, and the window along them. Assumes nothing.
-use Rattle.std.specs.Prelude.{◌≡◌, ℕ, ◌+◌, ◌-◌, ◌≤◌, ◌<◌, List, get_or}
+use Rattle.std.specs.Prelude.{◌≡◌, ℕ, ◌+◌, ◌≤◌, ◌<◌, List, get_or}
 use Rattle.template.specs.declared.Window.{Window}
 use Rattle.template.specs.Pels.{pel_at}
 

@@ -1,6 +1,6 @@
 -- The context slides: two shift registers, of the row above and of this row, whose sum is document 01's. Assumes
 -- nothing.
-use Rattle.std.specs.Prelude.{◌≡◌, ℕ, ◌+◌, ◌-◌, ◌*◌, ◌/◌, ◌%◌, List}
+use Rattle.std.specs.Prelude.{◌≡◌, ℕ, ◌+◌, ◌*◌, ◌/◌, ◌%◌, List}
 use Rattle.template.specs.declared.Window.{Window}
 use Rattle.template.specs.Pels.{left_of, right_of}
 

@@ -4,7 +4,6 @@ use Prim.Native.Nat.{ℕ, ◌*◌, ◌/◌, ◌%◌, ◌^◌, ◌≤◌}
 use native.Mathlib.Omega.{arith}
 use mathlib.Core.Bool.{Bool}
 use lib.Dec.{eqb, eqb→eq}
-use borrow.Author.Rules.{rules}
 use Rattle.ground.proofs.Tables.{at_each}
 use Rattle.estimate.specs.Estimate.{rows, fall}
 use Rattle.estimate.proofs.fall_of.Goals as goal

@@ -1,6 +1,5 @@
 -- The next entry is the definition's, case by case. Assumes nothing.
 use native.Mathlib.Omega.{arith}
-use borrow.Author.Rules.{rules}
 use Rattle.estimate.proofs.LawfulEntries.{next-rise, next-top, next-flip, next-fall}
 use Rattle.estimate.proofs.next_entry.Goals as goal
 

@@ -1,7 +1,6 @@
 -- All of them, or as many as the quotient says. Assumes nothing.
 use native.Mathlib.Nat.{div-mul-le_self, div-lt_iff_lt-mul, mul-le-mul}
 use native.Mathlib.Omega.{arith}
-use borrow.Author.Rules.{rules}
 use Rattle.limits.specs.Limits.{max_width}
 use Rattle.interval.proofs.fits.Goals as goal
 

@@ -1,9 +1,6 @@
 -- The pairs that were passed are no markers; one that is decides. Assumes nothing.
-use mathlib.Core.Path.{refl}
-use Prim.Native.Nat.{◌-◌}
 use native.Mathlib.Omega.{arith}
-use lib.ListN.{length}
-use Rattle.marker.proofs.Pairs.{Marks, marks-found, marks-next, marks-end}
+use Rattle.marker.proofs.Pairs.{marks-found, marks-next, marks-end}
 use Rattle.marker.proofs.marked.Goals as goal
 
 -- there is a byte before the one that the turn is at

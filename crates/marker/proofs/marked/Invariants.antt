@@ -1,8 +1,6 @@
-use mathlib.Core.Path.{refl}
 use Prim.Native.Nat.{◌-◌}
-use native.Mathlib.Omega.{arith}
 use lib.ListN.{length}
-use Rattle.marker.proofs.Pairs.{Marks, marks-found, marks-next, marks-end}
+use Rattle.marker.proofs.Pairs.{Marks}
 use Rattle.marker.proofs.marked.Given as goal
 
 abbrev pub invariant-loop-i : goal.invariant-loop-i

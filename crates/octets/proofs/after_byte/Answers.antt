@@ -1,6 +1,5 @@
 -- The registers after a byte, field by field. Assumes nothing.
 use mathlib.Core.Path.{refl}
-use borrow.Author.Rules.{rules}
 use Rattle.octets.proofs.after_byte.Goals as goal
 
 pub returns : goal.returns

@@ -2,7 +2,6 @@
 use mathlib.Core.Path.{◌≡◌, refl}
 use Prim.Native.Nat.{ℕ, ◌-◌, ◌*◌, ◌^◌}
 use native.Mathlib.Omega.{arith}
-use borrow.Author.Rules.{rules}
 use Rattle.octets.specs.Lift.{Out}
 use Rattle.octets.proofs.Lift.{scale-fits, short-next, settle-one, settle-two}
 use Prim.Native.Nat.{◌<◌}

@@ -1,10 +1,8 @@
 -- One pel in its context, in one of three ways. Assumes nothing.
-use Prim.Native.Nat.{◌-◌}
 use native.Mathlib.Omega.{arith}
 use mathlib.Core.Bool.{true, false}
 use Rattle.estimate.proofs.LawfulEntries.{row_sized}
 use Rattle.row.proofs.WrittenRow.{pelled-still, pelled-moved}
-use borrow.Author.Rules.{rules}
 use Rattle.row.proofs.put_pel.Goals as goal
 
 pub overflow_add-q : goal.overflow_add-q

@@ -1,13 +1,11 @@
 -- A row is written as the definition says: the loop's invariant is `RowAt`, and that a run reaches as far as it is
 -- known to. Assumes nothing.
 use mathlib.Core.Path.{◌≡◌, sym, ap, ◌∙◌, subst}
-use mathlib.Core.Logic.{⊎_elim}
 use mathlib.Core.Bool.{Bool}
 use Rattle.coder.specs.Writing.{counted}
-use Prim.Native.Nat.{ℕ, ◌+◌, ◌-◌, ◌*◌}
+use Prim.Native.Nat.{ℕ, ◌+◌, ◌*◌}
 use native.Mathlib.Numerals.{add-one}
 use native.Mathlib.Omega.{arith}
-use borrow.Author.Rules.{rules}
 use lib.ListN.{get_or, set}
 use Rattle.estimate.specs.Estimate.{LawfulTable}
 use Rattle.estimate.proofs.LawfulEntries.{row_sized}
@@ -22,7 +20,7 @@ use Rattle.engine.proofs.Coded.{pelled-kept}
 use Rattle.row.specs.QEngine.{q_engine}
 use Rattle.row.specs.WrittenRow.{given}
 use Rattle.row.proofs.QEngine.{q_is_engine}
-use Rattle.row.proofs.WrittenRow.{q_seven, RowAt, row-start, row-again, row_done, row-window, row_lawful}
+use Rattle.row.proofs.WrittenRow.{q_seven, row-start, row-again, row_done, row-window, row_lawful}
 use Rattle.row.proofs.WrittenRow.{row_count, row-place, row-revisits, row-length}
 use Rattle.row.proofs.WrittenRuns.{q_stills, row-run}
 use Prim.Native.Nat.{◌≤◌, ◌<◌}
@@ -56,9 +54,9 @@ start-window-requires c = omega arith
 
 pub loop-x-init : goal.loop-x-init
 loop-x-init c = let p = c.requires in (
-      row-start q_engine q_is_engine q_seven _ _ _ _ _ _ _ _ _ c.start-window.ensures p.4 p.5,
-      clear_none _ _ _ _ _ (omega arith) (omega arith),
-    )
+  row-start q_engine q_is_engine q_seven _ _ _ _ _ _ _ _ _ c.start-window.ensures p.4 p.5,
+  clear_none _ _ _ _ _ (omega arith) (omega arith),
+)
 
 pub pel_at-p-requires : goal.pel_at-p-requires
 pel_at-p-requires c = omega arith
@@ -178,24 +176,24 @@ loop-x-preserved c = let a = c.args in
     × (j.at ≡ l.at + v.result.settled)
     × (j.revisits ≡ counted v.result.revisited l.revisits)
     = elim c.if-v.branch [
-      then-v w ↦ (
+      | then-v w ↦ (
         ap (λ (u : Table). u.entries) w.table-is,
         w.out-is ∙ w.put_two-at.ensures.1,
         w.at-is ∙ w.put_two-at.ensures.0,
         w.revisits-is ∙ add-one l.revisits ∙ ap (λ (s : Bool). counted s l.revisits) (sym w.if-v.true),
-      ) |
-      else-v w ↦ (
-        let k = pelled-kept q_engine q_is_engine l.coder l.table.entries l.out cx l.at l.revisits _
-        (given v.result) v.ensures w.if-v.false in
-        (ap (λ (u : Table). u.entries) w.table-is ∙ k.0, w.out-is ∙ k.1, w.at-is ∙ k.2, w.revisits-is ∙ k.3)
       )
+      | else-v w ↦ (
+          let k = pelled-kept q_engine q_is_engine l.coder l.table.entries l.out cx l.at l.revisits _
+          (given v.result) v.ensures w.if-v.false in
+          (ap (λ (u : Table). u.entries) w.table-is ∙ k.0, w.out-is ∙ k.1, w.at-is ∙ k.2, w.revisits-is ∙ k.3)
+          )
     ] in
     let reach : Clear a.row.now above a.width l.x m.end
     = elim c.if-starts_run.branch [
-      then-starts_run+else-n-ne0 w ↦
-        subst (λ (z : ℕ). Clear a.row.now above a.width l.x z) (sym w.end-is) w.run_end-end.ensures.1 |
-      else-starts_run w ↦
-        subst (λ (z : ℕ). Clear a.row.now above a.width l.x z) (sym w.end-is) l.invariant.1
+      | then-starts_run+else-n-ne0 w ↦
+          subst (λ (z : ℕ). Clear a.row.now above a.width l.x z) (sym w.end-is) w.run_end-end.ensures.1
+      | else-starts_run w ↦
+          subst (λ (z : ℕ). Clear a.row.now above a.width l.x z) (sym w.end-is) l.invariant.1
     ] in
     rw add-one (
       row-again q_engine q_is_engine q_seven a.width above a.row.now _ _ _ _ _ l.table.entries l.coder

@@ -1,10 +1,10 @@
 -- `clear`: the first i bytes are zero, the rest as it was. Assumes nothing.
 use mathlib.Core.Path.{◌≡◌, refl, ◌∙◌}
-use mathlib.Core.List.{◌++◌, append-nil}
+use mathlib.Core.List.{append-nil}
 use lib.Seq.{drop-length}
-use Prim.Native.Nat.{◌≤◌, ◌<◌, ◌-◌}
+use Prim.Native.Nat.{◌<◌}
 use native.Mathlib.Omega.{arith}
-use lib.ListN.{length, replicate, drop, length-set}
+use lib.ListN.{length, length-set}
 use borrow.Author.Fill.{fill_none, fill_more}
 use Rattle.store.specs.Store.{cleared}
 use Rattle.store.proofs.clear.Goals as goal

@@ -3,7 +3,6 @@ use mathlib.Core.Path.{refl, sym, ◌∙◌}
 use native.Mathlib.Omega.{arith}
 use lib.Seq.{set_out}
 use Rattle.store.proofs.Store.{store-none, store-some}
-use borrow.Author.Rules.{rules}
 use Rattle.store.proofs.put.Goals as goal
 
 pub returns-then-at-eq0 : goal.returns-then-at-eq0

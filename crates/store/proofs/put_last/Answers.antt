@@ -1,10 +1,9 @@
 -- The last bytes, one after the other. Assumes nothing.
 use mathlib.Core.Path.{◌≡◌, refl, ap, ◌∙◌}
-use Prim.Native.Nat.{◌+◌, ◌-◌, ◌≤◌}
 use native.Mathlib.Numerals.{add-one}
 use native.Mathlib.Omega.{arith}
 use borrow.Author.Rules.{rules}
-use lib.ListN.{length, take}
+use lib.ListN.{length}
 use Rattle.store.specs.Store.{stores}
 use Rattle.store.proofs.Store.{stores-next, length-stores}
 use Rattle.store.proofs.put_last.Goals as goal

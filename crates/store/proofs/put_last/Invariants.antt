@@ -1,11 +1,7 @@
-use mathlib.Core.Path.{◌≡◌, refl, ap, ◌∙◌}
+use mathlib.Core.Path.{◌≡◌}
 use Prim.Native.Nat.{◌+◌, ◌-◌, ◌≤◌}
-use native.Mathlib.Numerals.{add-one}
-use native.Mathlib.Omega.{arith}
-use borrow.Author.Rules.{rules}
-use lib.ListN.{length, take}
+use lib.ListN.{take}
 use Rattle.store.specs.Store.{stores}
-use Rattle.store.proofs.Store.{stores-next, length-stores}
 use Rattle.store.proofs.put_last.Given as goal
 
 abbrev pub invariant-loop-i : goal.invariant-loop-i

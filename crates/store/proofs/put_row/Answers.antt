@@ -1,12 +1,11 @@
 -- A row put at its place, byte by byte. Assumes nothing.
 use mathlib.Core.Path.{◌≡◌, ap, ◌∙◌}
-use Prim.Native.Nat.{◌-◌, ◌≤◌}
 use native.Mathlib.Numerals.{add-one}
 use native.Mathlib.Omega.{arith}
 use borrow.Author.Rules.{rules}
 use lib.ListN.{length}
 use Rattle.limits.specs.Limits.{last_bytes}
-use lib.Seq.{paste, paste-zero, paste-suc, length-paste}
+use lib.Seq.{paste-zero, paste-suc, length-paste}
 use Rattle.store.proofs.put_row.Goals as goal
 
 pub loop-i-init : goal.loop-i-init

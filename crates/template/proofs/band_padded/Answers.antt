@@ -1,10 +1,7 @@
 -- The rows that were passed are padded; one that is not decides. Assumes nothing.
 use mathlib.Core.Path.{◌≡◌, refl, sym, ap, ◌∙◌}
-use Prim.Native.Nat.{◌-◌, ◌*◌, ◌≤◌}
+use Prim.Native.Nat.{◌*◌, ◌≤◌}
 use native.Mathlib.Omega.{arith}
-use borrow.Author.Rules.{rules}
-use borrow.Author.Tests.{not-true, not-false}
-use mathlib.Core.Bool.{true}
 use lib.ListN.{length}
 use Rattle.template.specs.Pels.{row_padded, band_padded}
 use Rattle.template.proofs.Padding.{row_within, row_is, row-long, padded-next, padded-not}
@@ -26,7 +23,7 @@ inside c =
 judged : (c : After-row_padded) → let a = c.args in
     row_padded a.width (row_at a.width a.pels.now c.loop-y.y) ≡ c.row_padded.result
 judged c =
-        let a = c.args in
+    let a = c.args in
     let b = c.row_bytes-bytes in
     sym (ap (row_padded a.width) (row_is a.width a.pels.now b.result c.loop-y.y b.ensures))
     ∙ sym c.row_padded.ensures
@@ -51,12 +48,12 @@ pub slice_bounds-row_padded-end : goal.slice_bounds-row_padded-end
 slice_bounds-row_padded-end c = let z = inside c in omega arith
 
 pub row_padded-requires : goal.row_padded-requires
-row_padded-requires c =     let b = c.row_bytes-bytes in
+row_padded-requires c = let b = c.row_bytes-bytes in
     let h = row-long c.args.pels.now b.result (c.loop-y.y * b.result) (inside (goal.at.row_padded-requires c).In-loop-y).0 in
     (omega arith, omega arith, h ∙ b.ensures)
 
 pub returns-then-not-row_padded : goal.returns-then-not-row_padded
-returns-then-not-row_padded c =     let a = c.args in
+returns-then-not-row_padded c = let a = c.args in
     sym (padded-not a.width a.pels.now c.loop-y.y a.rows (omega arith)
     (judged (goal.at.returns-then-not-row_padded c).After-row_padded ∙ c.if-not-row_padded.true))
 
@@ -67,11 +64,11 @@ pub loop-y-smaller : goal.loop-y-smaller
 loop-y-smaller c = omega arith
 
 pub loop-y-preserved : goal.loop-y-preserved
-loop-y-preserved c =     let a = c.args in (
-      omega arith,
-      padded-next a.width a.pels.now c.loop-y.y c.loop-y.invariant.1
-          (judged (goal.at.loop-y-preserved c).After-row_padded ∙ c.if-not-row_padded.false),
-    )
+loop-y-preserved c = let a = c.args in (
+  omega arith,
+  padded-next a.width a.pels.now c.loop-y.y c.loop-y.invariant.1
+      (judged (goal.at.loop-y-preserved c).After-row_padded ∙ c.if-not-row_padded.false),
+)
 
 pub returns : goal.returns
 returns c = let l = c.loop-y in

@@ -2,7 +2,6 @@
 use mathlib.Core.Path.{sym, ◌∙◌}
 use native.Mathlib.Omega.{arith}
 use Rattle.template.proofs.Sliding.{pels-at, pels-past}
-use borrow.Author.Rules.{rules}
 use Rattle.template.proofs.edge_pel.Goals as goal
 
 pub returns-then-x-width : goal.returns-then-x-width

@@ -1,6 +1,5 @@
 -- A byte of the row, or 0 past its end. Assumes nothing.
 use Rattle.template.proofs.Words.{word-past}
-use borrow.Author.Rules.{rules}
 use Rattle.template.proofs.join_any.Goals as goal
 
 pub returns : goal.returns

@@ -2,7 +2,6 @@
 use mathlib.Core.Path.{refl}
 use native.Mathlib.Omega.{arith}
 use Rattle.template.specs.Pels.{pel_at}
-use borrow.Author.Rules.{rules}
 use Rattle.template.proofs.pel_at.Goals as goal
 
 pub returns : goal.returns

@@ -2,7 +2,6 @@
 use Rattle.template.proofs.Padding.{shift_small, padded-by}
 use Prim.Native.Nat.{◌-◌, ◌*◌}
 use native.Mathlib.Omega.{arith}
-use borrow.Author.Rules.{rules}
 use Rattle.template.proofs.row_padded.Goals as goal
 
 pub overflow_cast-end : goal.overflow_cast-end

@@ -1,7 +1,6 @@
 -- The nearer of the two ends. Assumes nothing.
 use native.Mathlib.Omega.{arith}
 use Rattle.template.proofs.White.{white-part, under-part}
-use borrow.Author.Rules.{rules}
 use Rattle.template.proofs.run_to.Goals as goal
 
 pub returns-then-y-over : goal.returns-then-y-over

@@ -1,6 +1,5 @@
 -- The leading zeros behind the mask are white pels. Assumes nothing.
 use native.Mathlib.Omega.{arith}
-use borrow.Author.Rules.{rules}
 use Rattle.template.proofs.White.{white-word}
 use Rattle.template.proofs.white_of.Goals as goal
 

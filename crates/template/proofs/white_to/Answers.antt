@@ -1,10 +1,6 @@
 -- Word by word: the loop's invariant is that the pels from x up to y are white. Assumes nothing.
-use mathlib.Core.Path.{◌≡◌}
-use mathlib.Core.Logic.{◌⊎◌, inl, inr}
-use Prim.Native.Nat.{ℕ, ◌+◌, ◌-◌, ◌*◌, ◌/◌, ◌≤◌, ◌<◌}
+use Prim.Native.Nat.{◌+◌, ◌-◌, ◌*◌, ◌≤◌, ◌<◌}
 use native.Mathlib.Omega.{arith}
-use borrow.Author.Rules.{rules}
-use Rattle.template.specs.White.{White}
 use Rattle.template.proofs.White.{white-more, white-part}
 use Rattle.template.proofs.white_to.Goals as goal
 use Rattle.template.proofs.white_to.Goals.{Joined-x-last, then-x-last, else-x-last}
@@ -14,8 +10,8 @@ first : (c : Joined-x-last) → (c.if-x-last.k ≤ c.args.bytes - 8) × (8 * c.i
     × (c.args.x < 8 * c.if-x-last.k + 64)
 first c =
     elim c.if-x-last.branch [
-      then-x-last w ↦ (omega arith, omega arith, omega arith) |
-      else-x-last w ↦ (omega arith, omega arith, omega arith)
+      | then-x-last w ↦ (omega arith, omega arith, omega arith)
+      | else-x-last w ↦ (omega arith, omega arith, omega arith)
     ]
 
 pub white_of-requires : goal.white_of-requires

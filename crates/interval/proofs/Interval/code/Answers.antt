@@ -1,6 +1,5 @@
 -- One pel coded: its part, then the doublings. Assumes nothing.
 use native.Mathlib.Omega.{arith}
-use borrow.Author.Rules.{rules}
 use Rattle.interval.proofs.Growing.{Fits, part-fits}
 use Rattle.interval.proofs.Interval.code.Goals as goal
 

@@ -1,5 +1,4 @@
 -- The part of the interval that a pel takes, upper or lower. Assumes nothing.
-use borrow.Author.Rules.{rules}
 use Rattle.interval.proofs.Interval.part.Goals as goal
 
 pub returns-then-expected : goal.returns-then-expected

@@ -1,14 +1,7 @@
-use mathlib.Core.Path.{◌≡◌, refl, sym}
-use Prim.Native.Nat.{◌*◌, ◌^◌}
-use native.Mathlib.Nat.{mul-one}
-use native.Mathlib.Numerals.{add-one}
-use native.Mathlib.Omega.{arith}
 use Rattle.interval.specs.declared.Interval.{Interval}
 use Rattle.octets.specs.Octets.{finish, ended}
 use Rattle.octets.specs.Fit.{Rest}
-use Rattle.octets.specs.Lift.{Out}
-use Rattle.octets.proofs.Ending.{stays, Ending, ending-start, ending-low, ending-again, ending-end}
-use Prim.Native.Nat.{◌<◌}
+use Rattle.octets.proofs.Ending.{stays, Ending}
 use Rattle.octets.proofs.Coder.finish.Given as goal
 
 abbrev pub invariant-loop-left : goal.invariant-loop-left

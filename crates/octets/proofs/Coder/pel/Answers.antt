@@ -1,7 +1,6 @@
 -- One pel is the definition's. Assumes nothing.
 use mathlib.Core.Path.{refl, ◌∙◌}
 use native.Mathlib.Omega.{arith}
-use borrow.Author.Rules.{rules}
 use Rattle.octets.proofs.OnePel.{low_fits, pel-few, pel-bytes, split, left_over}
 use Rattle.octets.proofs.Coder.pel.Goals as goal
 

@@ -1,5 +1,4 @@
 -- The registers at the start of a band. Assumes nothing.
-use borrow.Author.Rules.{rules}
 use Rattle.octets.proofs.Coder.start.Goals as goal
 
 pub returns : goal.returns

@@ -1,7 +1,6 @@
 -- The context of a window. Assumes nothing.
 use native.Mathlib.Omega.{arith}
 use Rattle.template.proofs.Sliding.{parted-sum}
-use borrow.Author.Rules.{rules}
 use Rattle.template.proofs.Window.context.Goals as goal
 
 pub returns : goal.returns

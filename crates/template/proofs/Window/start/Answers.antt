@@ -1,6 +1,5 @@
 -- The window at the left edge. Assumes nothing.
 use Rattle.template.proofs.Sliding.{slid-start}
-use borrow.Author.Rules.{rules}
 use Rattle.template.proofs.Window.start.Goals as goal
 
 pub returns : goal.returns

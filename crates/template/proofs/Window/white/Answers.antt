@@ -1,5 +1,4 @@
 -- The window behind a white run. Assumes nothing.
-use borrow.Author.Rules.{rules}
 use Rattle.template.proofs.Window.white.Goals as goal
 
 pub returns : goal.returns

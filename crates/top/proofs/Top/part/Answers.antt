@@ -1,6 +1,5 @@
 -- The part of the interval that a pel takes: the top moves only where the pel is unexpected. Assumes nothing.
 use native.Mathlib.Omega.{arith}
-use borrow.Author.Rules.{rules}
 use Rattle.top.proofs.Moved.{narrowed-still}
 use Rattle.top.proofs.Pels.{lowered}
 use Rattle.top.proofs.Top.part.Goals as goal
