@@ -1,6 +1,6 @@
 -- A lawful desk, page by page and place by place: what is asked of one in itself, and in the book beside the others.
 -- Assumes nothing.
-use Rattle.std.specs.Prelude.{◌-◌, Bool, not, ◌&&◌, ◌||◌, List, map, eqb, leb}
+use Rattle.std.specs.Prelude.{Bool, not, ◌&&◌, ◌||◌, List, map, eqb, leb}
 use Rattle.limits.specs.Limits.{max_width}
 use Rattle.desk.specs.declared.Key.{Key}
 use Rattle.parts.specs.declared.PageLine.{PageLine}

@@ -1,5 +1,5 @@
 -- What the reader's code sees, as the definition's Sight; k shifts at once; a pel that was told. Assumes nothing.
-use Rattle.std.specs.Prelude.{◌≡◌, ℕ, zero, suc, ◌-◌, ◌%◌, ◌^◌, ◌≤◌, ◌<◌, List, drop, length}
+use Rattle.std.specs.Prelude.{◌≡◌, ℕ, zero, suc, ◌%◌, ◌^◌, ◌≤◌, ◌<◌, List, drop, length}
 use Rattle.exact.specs.Sight.{Sight, nearer, supplied, seek, decide, taken}
 use Rattle.coder.specs.Reading.{pel_of}
 use Rattle.estimate.specs.Estimate.{row_of}

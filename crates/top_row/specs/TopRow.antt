@@ -1,5 +1,5 @@
 -- The second engine: registers that hold the top of the interval; and what a pel gives. Assumes nothing.
-use Rattle.std.specs.Prelude.{◌≡◌, ℕ, ◌≤◌, Bool, true, false, List, ◌∷◌, [], take}
+use Rattle.std.specs.Prelude.{◌≡◌, ℕ, ◌≤◌, Bool, true, false, ◌∷◌, [], take}
 use Rattle.engine.specs.Engine.{Engine}
 use Rattle.engine.specs.Coded.{Gives}
 use Rattle.engine.specs.Coded as any

@@ -1,7 +1,6 @@
 -- The reader of the Q-coder. Assumes nothing.
-use Rattle.std.specs.Prelude.{◌-◌, ltb}
+use Rattle.std.specs.Prelude.{ltb}
 use Rattle.coder.specs.Reading.{Reader}
-use Rattle.octets.specs.Octets.{start}
 use Rattle.exact.specs.Sight.{Sight, opened, seek, decide, taken}
 
 -- the reader: its decision, and the shifts after it

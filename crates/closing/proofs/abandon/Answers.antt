@@ -9,7 +9,6 @@ use Rattle.parts.specs.Parts.{desk_of, parts_of}
 use Rattle.desk.specs.Calls.{abandons}
 use Rattle.refusals.proofs.Refusing.{Stood, away, stood, at-end, turns-away, nothing_lent, stands-as}
 use Rattle.closing.proofs.Leaving.{abandon-number, abandon-done}
-use borrow.Author.Rules.{rules}
 use Prim.Native.Nat.{ℕ}
 use Rattle.parts.specs.Parts.{Whole}
 use Rattle.closing.proofs.abandon.Goals as goal

@@ -2,7 +2,6 @@
 use mathlib.Core.Path.{◌∙◌}
 use mathlib.Core.List.{[]}
 use Prim.Native.Nat.{◌<◌}
-use native.Mathlib.Omega.{arith}
 use mathlib.Core.Bool.{true}
 use Rattle.limits.specs.Limits.{max_pages}
 use Rattle.parts.specs.declared.Parts.{Parts}
@@ -11,7 +10,6 @@ use Rattle.desk.specs.Calls.{closes}
 use Rattle.desk.specs.Changes.{learned_place}
 use Rattle.refusals.proofs.Refusing.{Stood, away, stood, at-end, turns-away, nothing_lent, stands-as}
 use Rattle.closing.proofs.Leaving.{close-number, close-done}
-use borrow.Author.Rules.{rules}
 use Prim.Native.Nat.{ℕ}
 use Rattle.parts.specs.Parts.{Whole}
 use Rattle.closing.proofs.close.Goals as goal

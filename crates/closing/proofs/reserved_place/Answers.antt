@@ -2,7 +2,6 @@
 use mathlib.Core.Path.{sym, ap, ◌∙◌}
 use Rattle.desk.specs.Places.{is_found}
 use Rattle.closing.proofs.Leaving.{none-reserved, one-reserved}
-use borrow.Author.Rules.{rules}
 use Rattle.closing.proofs.reserved_place.Goals as goal
 
 pub returns-then-is_found : goal.returns-then-is_found

@@ -2,7 +2,6 @@
 use mathlib.Core.Path.{ap, ◌∙◌}
 use Rattle.desk.specs.Places.{is_found}
 use Rattle.desk.proofs.OpenPages.{found-any}
-use borrow.Author.Rules.{rules}
 use Rattle.lawful.proofs.has_place.Goals as goal
 
 pub returns : goal.returns

@@ -1,10 +1,6 @@
 -- The highest so far, and of the rest, is the highest of all. Assumes nothing.
-use mathlib.Core.Path.{refl}
-use Prim.Native.Nat.{◌-◌}
 use native.Mathlib.Omega.{arith}
-use lib.ListN.{length}
-use Rattle.lawful.proofs.HighestByte.{Highest, highest-next, highest-end}
-use borrow.Author.Rules.{rules}
+use Rattle.lawful.proofs.HighestByte.{highest-next, highest-end}
 use Rattle.lawful.proofs.highest.Goals as goal
 
 pub loop-i-preserved : goal.loop-i-preserved

@@ -1,9 +1,6 @@
-use mathlib.Core.Path.{refl}
 use Prim.Native.Nat.{◌-◌}
-use native.Mathlib.Omega.{arith}
 use lib.ListN.{length}
-use Rattle.lawful.proofs.HighestByte.{Highest, highest-next, highest-end}
-use borrow.Author.Rules.{rules}
+use Rattle.lawful.proofs.HighestByte.{Highest}
 use Rattle.lawful.proofs.highest.Given as goal
 
 abbrev pub invariant-loop-i : goal.invariant-loop-i

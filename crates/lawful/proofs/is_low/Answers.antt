@@ -3,7 +3,6 @@ use mathlib.Core.Path.{ap, ◌∙◌}
 use Prim.Native.Nat.{ℕ}
 use lib.Dec.{leb}
 use Rattle.lawful.proofs.HighestByte.{all-low}
-use borrow.Author.Rules.{rules}
 use Rattle.lawful.proofs.is_low.Goals as goal
 
 pub returns : goal.returns

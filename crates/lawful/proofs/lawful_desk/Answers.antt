@@ -10,7 +10,6 @@ use Rattle.parts.proofs.Lines.{lines-off, place-lines-off, tables-long, rows_lon
 use Rattle.lawful.specs.Every.{each}
 use Rattle.lawful.specs.Each.{page_right, place_right}
 use Rattle.lawful.proofs.Each.{lawful-each}
-use borrow.Author.Rules.{rules}
 use Rattle.lawful.proofs.lawful_desk.Goals as goal
 
 pub returns : goal.returns

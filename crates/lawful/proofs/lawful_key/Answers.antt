@@ -1,5 +1,4 @@
 -- Both numbers of the key. Assumes nothing.
-use borrow.Author.Rules.{rules}
 use Rattle.lawful.proofs.lawful_key.Goals as goal
 
 pub returns : goal.returns

@@ -1,7 +1,6 @@
 -- By whether it is open. Assumes nothing.
 use borrow.Author.Tests.{eq-eqb, ne_eqb}
 use Rattle.desk.specs.Lawful.{lawful_page}
-use borrow.Author.Rules.{rules}
 use Rattle.lawful.proofs.lawful_page.Goals as goal
 
 pub returns-then-p-eq0 : goal.returns-then-p-eq0

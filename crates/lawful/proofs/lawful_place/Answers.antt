@@ -6,7 +6,6 @@ use borrow.Author.Tests.{ne_eqb}
 use Rattle.desk.specs.Places.{same_key}
 use Rattle.lawful.specs.Highest.{low}
 use Rattle.lawful.proofs.Each.{free-made, used-made}
-use borrow.Author.Rules.{rules}
 use Rattle.lawful.proofs.lawful_place.Goals as goal
 
 pub returns-then-q-eq0 : goal.returns-then-q-eq0

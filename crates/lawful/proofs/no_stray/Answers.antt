@@ -1,6 +1,5 @@
 -- First the padding bits, then the bytes after the row. Assumes nothing.
 use Rattle.lawful.proofs.Each.{stray-made}
-use borrow.Author.Rules.{rules}
 use Rattle.lawful.proofs.no_stray.Goals as goal
 
 pub returns : goal.returns

@@ -1,12 +1,10 @@
 -- The width is tested first, since the row's test asks for a lawful one. Assumes nothing.
 use mathlib.Core.Path.{sym, ◌∙◌}
 use native.Mathlib.Omega.{arith}
-use borrow.Author.Tests.{not-true, not-false}
 use Rattle.limits.specs.Limits.{max_width}
 use Rattle.parts.specs.Parts.{as_page}
 use Rattle.desk.proofs.OpenPages.{within_both}
 use Rattle.lawful.proofs.Each.{open-stops, open_made}
-use borrow.Author.Rules.{rules}
 use Rattle.lawful.proofs.open_right.Goals as goal
 
 pub returns-then-not-in_range : goal.returns-then-not-in_range

@@ -1,5 +1,4 @@
 -- Unused, or alone and with its place. Assumes nothing.
-use borrow.Author.Rules.{rules}
 use Rattle.lawful.proofs.page_known.Goals as goal
 
 pub returns : goal.returns

@@ -1,5 +1,4 @@
 -- Free or alone, and not reserved or with its page. Assumes nothing.
-use borrow.Author.Rules.{rules}
 use Rattle.lawful.proofs.place_known.Goals as goal
 
 pub returns : goal.returns

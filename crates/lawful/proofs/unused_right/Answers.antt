@@ -3,7 +3,6 @@ use mathlib.Core.Path.{ap, ◌∙◌}
 use Rattle.parts.specs.Parts.{as_page}
 use Rattle.desk.specs.Places.{same_key}
 use Rattle.lawful.proofs.Each.{unused-made}
-use borrow.Author.Rules.{rules}
 use Rattle.lawful.proofs.unused_right.Goals as goal
 
 pub returns : goal.returns

@@ -1,7 +1,6 @@
 -- Its state is the direction's. Assumes nothing.
 use mathlib.Core.Path.{ap}
 use Prim.Native.Nat.{ℕ}
-use borrow.Author.Rules.{rules}
 use Rattle.opening.proofs.new_line.Goals as goal
 
 pub returns : goal.returns

@@ -20,7 +20,6 @@ use Rattle.desk.specs.Calls.{opens}
 use Rattle.refusals.specs.Stands.{early}
 use Rattle.refusals.proofs.Refusing.{refuses, nothing_lent}
 use Rattle.opening.proofs.Opening.{open-early, open-opened, open-pages, open-taught, open-left}
-use borrow.Author.Rules.{rules}
 use mathlib.Core.Bool.{false}
 use Prim.Native.Nat.{ℕ}
 use Rattle.parts.specs.Parts.{Whole}

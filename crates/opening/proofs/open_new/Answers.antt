@@ -1,6 +1,5 @@
 -- By whether a place is free. Assumes nothing.
 use mathlib.Core.Path.{sym, ap, ◌∙◌}
-use borrow.Author.Tests.{not-true, not-false}
 use Rattle.band.specs.Band.{white}
 use Rattle.parts.specs.declared.Parts.{Parts}
 use Rattle.parts.specs.declared.PageLine.{PageLine}
@@ -12,7 +11,6 @@ use Rattle.parts.proofs.Lines.{find-places}
 use Rattle.parts.proofs.Puts.{page-as, page-whole, place-whole, whole-as}
 use Rattle.desk.specs.Changes.{reserved_place}
 use Rattle.opening.proofs.Opening.{new-refused, new-done}
-use borrow.Author.Rules.{rules}
 use mathlib.Core.Path.{◌≡◌}
 use Rattle.parts.specs.Parts.{desk_of}
 use Rattle.desk.specs.Places.{free_place_found}

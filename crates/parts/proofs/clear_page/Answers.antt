@@ -8,7 +8,6 @@ use Rattle.desk.specs.declared.Key.{Key}
 use Rattle.parts.specs.Parts.{as_page}
 use Rattle.desk.specs.Places.{unused_page}
 use Rattle.parts.proofs.Puts.{page-as}
-use borrow.Author.Rules.{rules}
 use Rattle.parts.proofs.clear_page.Goals as goal
 
 pub returns : goal.returns

@@ -5,7 +5,6 @@ use Rattle.desk.specs.declared.Key.{Key}
 use Rattle.parts.specs.Parts.{as_place}
 use Rattle.desk.specs.Places.{free_place}
 use Rattle.parts.proofs.Puts.{place-as}
-use borrow.Author.Rules.{rules}
 use Rattle.parts.proofs.clear_place.Goals as goal
 
 pub returns : goal.returns

@@ -1,6 +1,5 @@
 -- What is stored is the parts of an empty desk. Assumes nothing.
 use Rattle.parts.proofs.EmptyDesk.{reads-empty, empty-whole}
-use borrow.Author.Rules.{rules}
 use Rattle.parts.proofs.emptied.Goals as goal
 
 pub returns : goal.returns

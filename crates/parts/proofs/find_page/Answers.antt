@@ -1,12 +1,8 @@
 -- The first such page is found, or there is none. Assumes nothing.
 use mathlib.Core.Path.{sym, ◌∙◌}
-use Prim.Native.Nat.{◌-◌}
 use native.Mathlib.Omega.{arith}
-use borrow.Author.Rules.{rules}
-use Rattle.limits.specs.Limits.{max_pages}
 use Rattle.parts.specs.Lines.{no_page_line}
-use Rattle.parts.specs.Finding.{page_sought}
-use Rattle.parts.proofs.Finding.{Searching, search-starts, found_here, found-later, found_nowhere}
+use Rattle.parts.proofs.Finding.{found_here, found-later, found_nowhere}
 use Rattle.parts.proofs.find_page.Goals as goal
 
 pub returns-then-is_sought : goal.returns-then-is_sought

@@ -1,12 +1,8 @@
 -- The first such place is found, or there is none. Assumes nothing.
 use mathlib.Core.Path.{sym, ◌∙◌}
-use Prim.Native.Nat.{◌-◌}
 use native.Mathlib.Omega.{arith}
-use borrow.Author.Rules.{rules}
-use Rattle.limits.specs.Limits.{max_places}
 use Rattle.parts.specs.Lines.{no_place_line}
-use Rattle.parts.specs.Finding.{place_sought}
-use Rattle.parts.proofs.Finding.{Searching, search-starts, found_here, found-later, found_nowhere}
+use Rattle.parts.proofs.Finding.{found_here, found-later, found_nowhere}
 use Rattle.parts.proofs.find_place.Goals as goal
 
 pub returns-then-is_sought : goal.returns-then-is_sought

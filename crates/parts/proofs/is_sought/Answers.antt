@@ -1,6 +1,5 @@
 -- A line is what is looked for, in each case. Assumes nothing.
 use mathlib.Core.Path.{◌∙◌}
-use borrow.Author.Rules.{rules}
 use Rattle.parts.proofs.is_sought.Goals as goal
 
 pub returns-in-Used : goal.returns-in-Used

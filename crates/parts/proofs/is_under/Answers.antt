@@ -1,5 +1,4 @@
 -- Used, and the same key. Assumes nothing.
-use borrow.Author.Rules.{rules}
 use Rattle.parts.proofs.is_under.Goals as goal
 
 pub returns : goal.returns

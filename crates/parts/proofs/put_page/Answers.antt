@@ -1,6 +1,5 @@
 -- What is put among the parts at i is put in the desk at i. Assumes nothing.
 use Rattle.parts.proofs.Puts.{page-put}
-use borrow.Author.Rules.{rules}
 use Rattle.parts.proofs.put_page.Goals as goal
 
 pub returns : goal.returns

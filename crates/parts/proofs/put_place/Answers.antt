@@ -1,10 +1,8 @@
 -- What is put among the parts where a place was found is put there in the desk. Assumes nothing.
 use Prim.Native.Nat.{◌<◌}
-use native.Mathlib.Omega.{arith}
 use Rattle.limits.specs.Limits.{max_places}
 use Rattle.parts.specs.Parts.{as_place}
 use Rattle.parts.proofs.Puts.{place-put, no-place-put}
-use borrow.Author.Rules.{rules}
 use Rattle.parts.proofs.put_place.Goals as goal
 use Rattle.parts.proofs.put_place.Goals.{After-entries-1}
 

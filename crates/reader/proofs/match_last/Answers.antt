@@ -1,11 +1,9 @@
 -- The last bytes compared with the code. Assumes nothing.
 use mathlib.Core.Path.{◌≡◌, sym}
-use mathlib.Core.Bool.{◌&&◌}
-use Prim.Native.Nat.{◌-◌, ◌≤◌}
 use native.Mathlib.Numerals.{add-one}
 use native.Mathlib.Omega.{arith}
 use borrow.Author.Rules.{rules}
-use lib.ListN.{length, take}
+use lib.ListN.{length}
 use Rattle.engine.specs.Followed.{matches}
 use Rattle.engine.proofs.Matching.{matches-next, with-true}
 use Rattle.reader.proofs.match_last.Goals as goal

@@ -1,12 +1,8 @@
-use mathlib.Core.Path.{◌≡◌, sym}
+use mathlib.Core.Path.{◌≡◌}
 use mathlib.Core.Bool.{◌&&◌}
 use Prim.Native.Nat.{◌-◌, ◌≤◌}
-use native.Mathlib.Numerals.{add-one}
-use native.Mathlib.Omega.{arith}
-use borrow.Author.Rules.{rules}
-use lib.ListN.{length, take}
+use lib.ListN.{take}
 use Rattle.engine.specs.Followed.{matches}
-use Rattle.engine.proofs.Matching.{matches-next, with-true}
 use Rattle.reader.proofs.match_last.Given as goal
 
 abbrev pub invariant-loop-i : goal.invariant-loop-i

@@ -1,5 +1,4 @@
 -- A settled byte compared with the code. Assumes nothing.
-use borrow.Author.Rules.{rules}
 use mathlib.Core.Path.{refl}
 use borrow.Author.Tests.{lt-ltb, le-ltb}
 use Rattle.engine.proofs.Matching.{match-first, match-later}

@@ -1,13 +1,11 @@
 -- A row is read as the laws' reader reads it, and compared as it goes: the loop's invariant is `RowRead`, and that a
 -- run reaches as far as it is known to. Assumes nothing.
 use mathlib.Core.Path.{◌≡◌, sym, ap, ◌∙◌, subst}
-use mathlib.Core.Logic.{⊎_elim}
 use mathlib.Core.Bool.{Bool, ◌&&◌}
 use Rattle.coder.specs.Writing.{counted}
-use Prim.Native.Nat.{ℕ, ◌+◌, ◌-◌, ◌*◌, ◌/◌, ◌%◌, ◌≤◌}
+use Prim.Native.Nat.{ℕ, ◌+◌, ◌*◌, ◌/◌, ◌%◌, ◌≤◌}
 use native.Mathlib.Numerals.{add-one}
 use native.Mathlib.Omega.{arith}
-use borrow.Author.Rules.{rules}
 use mathlib.Core.List.{[]}
 use lib.ListN.{get_or, set}
 use Rattle.estimate.specs.declared.Table.{Table}
@@ -32,7 +30,7 @@ use Rattle.sight.proofs.Views.{told-bit}
 use Rattle.reader.proofs.ReadRow.{read_told, read-start, read-turn, read-window, read-lawful, read-few}
 use Rattle.reader.proofs.ReadRow.{read-room, read_whole, read_down}
 use Rattle.engine.specs.Followed.{matches}
-use Rattle.reader.proofs.ReadRuns.{ReadTo, told-so, white-small, read-run}
+use Rattle.reader.proofs.ReadRuns.{told-so, white-small, read-run}
 use Prim.Native.Nat.{◌<◌}
 use Rattle.reader.proofs.read_row.Goals as goal
 use Rattle.reader.proofs.read_row.Goals.{In-loop-x, then-v, else-v, then-starts_run+else-n-ne0, else-starts_run}

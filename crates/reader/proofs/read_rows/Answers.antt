@@ -1,13 +1,12 @@
 -- The rows of a band, one after the other: the loop's invariant is `BandRead`. Assumes nothing.
 use mathlib.Core.Path.{◌≡◌, refl, sym, ◌∙◌}
-use Prim.Native.Nat.{◌-◌, ◌≤◌}
+use Prim.Native.Nat.{◌≤◌}
 use native.Mathlib.Nat.{mul-le-mul_right}
 use native.Mathlib.Numerals.{add-one}
 use native.Mathlib.Omega.{arith}
 use borrow.Author.Rules.{rules}
 use lib.ListN.{length}
 use Rattle.limits.specs.Limits.{max_rows, last_bytes}
-use Rattle.reader.specs.Reads.{BandRead}
 use Rattle.reader.proofs.RowsRead.{reads-start, reads-few, reads-again, next-room}
 use Prim.Native.Nat.{ℕ, ◌+◌, ◌*◌}
 use mathlib.Core.Path.{subst}

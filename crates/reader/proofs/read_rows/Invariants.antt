@@ -1,15 +1,8 @@
-use mathlib.Core.Path.{◌≡◌, refl, sym, ◌∙◌}
+use mathlib.Core.Path.{◌≡◌}
 use Prim.Native.Nat.{◌-◌, ◌≤◌}
-use native.Mathlib.Nat.{mul-le-mul_right}
-use native.Mathlib.Numerals.{add-one}
-use native.Mathlib.Omega.{arith}
-use borrow.Author.Rules.{rules}
 use lib.ListN.{length}
-use Rattle.limits.specs.Limits.{max_rows, last_bytes}
+use Rattle.limits.specs.Limits.{last_bytes}
 use Rattle.reader.specs.Reads.{BandRead}
-use Rattle.reader.proofs.RowsRead.{reads-start, reads-few, reads-again, next-room}
-use Prim.Native.Nat.{ℕ, ◌+◌, ◌*◌}
-use mathlib.Core.Path.{subst}
 use Rattle.reader.proofs.read_rows.Given as goal
 
 abbrev pub invariant-loop-y : goal.invariant-loop-y

@@ -1,7 +1,6 @@
 -- The first three tests, in their order. Assumes nothing.
 use mathlib.Core.Path.{sym, ◌∙◌}
 use borrow.Author.Tests.{not-true, not-false}
-use borrow.Author.Rules.{rules}
 use Rattle.refusals.proofs.early_refusal.Goals as goal
 
 pub returns-then-not-good : goal.returns-then-not-good

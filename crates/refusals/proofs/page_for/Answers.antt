@@ -2,7 +2,6 @@
 use mathlib.Core.Path.{sym, ◌∙◌}
 use Rattle.desk.specs.Lawful.{lawful_key}
 use Rattle.refusals.proofs.StandingOn.{on-found, on_none, stopped, went_on}
-use borrow.Author.Rules.{rules}
 use Rattle.refusals.proofs.page_for.Goals as goal
 
 pub returns-then-early-ne0 : goal.returns-then-early-ne0

@@ -1,12 +1,10 @@
 -- The page's direction, where there is a page. Assumes nothing.
 use mathlib.Core.Path.{sym, ap, ◌∙◌}
 use Prim.Native.Nat.{◌<◌}
-use native.Mathlib.Omega.{arith}
 use Rattle.limits.specs.Limits.{max_pages}
 use Rattle.desk.specs.Places.{state_for}
 use Rattle.refusals.specs.Stands.{standing_to}
 use Rattle.refusals.proofs.StandingOn.{away-still, other_way, right-way}
-use borrow.Author.Rules.{rules}
 use Prim.Native.Nat.{ℕ}
 use Rattle.refusals.proofs.page_to.Goals as goal
 use Rattle.refusals.proofs.page_to.Goals.{In-On}

@@ -3,7 +3,6 @@ use mathlib.Core.Path.{sym, ap, ◌∙◌}
 use Rattle.parts.specs.Replies.{refused_by}
 use Rattle.refusals.specs.declared.Stands.{Stands}
 use Rattle.refusals.specs.Stands.{number_of}
-use borrow.Author.Rules.{rules}
 use Rattle.refusals.proofs.turned_away.Goals as goal
 
 pub returns-in-On : goal.returns-in-On

@@ -1,5 +1,4 @@
 -- The expected pel, or the other. Assumes nothing.
-use borrow.Author.Rules.{rules}
 use native.Mathlib.Omega.{arith}
 use Rattle.sight.proofs.pel_told.Goals as goal
 

@@ -14,7 +14,6 @@ use Rattle.sight.specs.Views.{sight_of}
 use Rattle.sight.proofs.Views.{told_moved, part_small}
 use Rattle.sight.specs.Still.{view_by}
 use Rattle.sight.proofs.Still.{told-still}
-use borrow.Author.Rules.{rules}
 use Prim.Native.Nat.{◌*◌, ◌^◌, ◌≤◌, ◌<◌}
 use Rattle.sight.proofs.read_pel.Goals as goal
 use Rattle.sight.proofs.read_pel.Goals.{Else-part-view, Then-part-view}

@@ -3,7 +3,6 @@ use mathlib.Core.Path.{◌≡◌, sym, ap, ◌∙◌}
 use mathlib.Core.Bool.{Bool, true}
 use mathlib.Core.List.{[]}
 use native.Mathlib.Omega.{arith}
-use borrow.Author.Tests.{not-true, not-false}
 use Rattle.parts.specs.declared.Parts.{Parts}
 use Rattle.parts.specs.declared.Sought.TheVariants.{Used, Learned}
 use Rattle.parts.specs.Parts.{desk_of, parts_of}
@@ -14,7 +13,6 @@ use Rattle.desk.specs.Calls.{drops}
 use Rattle.refusals.specs.Stands.{early}
 use Rattle.refusals.proofs.Refusing.{refuses, nothing_lent}
 use Rattle.tables.proofs.Tables.{drop-early, drop-opened, drop-untaught, drop-end, drop-done}
-use borrow.Author.Rules.{rules}
 use mathlib.Core.Bool.{false}
 use Rattle.parts.specs.Parts.{Whole}
 use Rattle.tables.proofs.forget.Goals as goal

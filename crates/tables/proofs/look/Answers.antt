@@ -15,7 +15,6 @@ use Rattle.desk.specs.Calls.{looks}
 use Rattle.refusals.specs.Stands.{early}
 use Rattle.refusals.proofs.Refusing.{early-plain, refuses, keeps, clears}
 use Rattle.tables.proofs.Tables.{look-early, look-untaught, look-room, look-end, look-done}
-use borrow.Author.Rules.{rules}
 use Prim.Native.Nat.{ℕ}
 use Rattle.parts.specs.Parts.{Whole}
 use Rattle.tables.proofs.look.Goals as goal

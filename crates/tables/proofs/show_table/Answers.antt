@@ -1,10 +1,8 @@
 -- The bytes stored so far stand in front, and the rest is kept. Assumes nothing.
-use mathlib.Core.Path.{◌≡◌, refl, ◌∙◌}
-use Prim.Native.Nat.{◌-◌, ◌≤◌}
+use mathlib.Core.Path.{refl, ◌∙◌}
 use native.Mathlib.Omega.{arith}
-use lib.ListN.{length, length-set}
-use Rattle.limits.specs.Limits.{contexts}
-use Rattle.tables.proofs.Showing.{shown, shown-none, shown-next, shown-all}
+use lib.ListN.{length-set}
+use Rattle.tables.proofs.Showing.{shown-none, shown-next, shown-all}
 use borrow.Author.Rules.{rules}
 use Rattle.tables.proofs.show_table.Goals as goal
 

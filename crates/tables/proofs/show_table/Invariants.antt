@@ -1,10 +1,8 @@
-use mathlib.Core.Path.{◌≡◌, refl, ◌∙◌}
+use mathlib.Core.Path.{◌≡◌}
 use Prim.Native.Nat.{◌-◌, ◌≤◌}
-use native.Mathlib.Omega.{arith}
-use lib.ListN.{length, length-set}
+use lib.ListN.{length}
 use Rattle.limits.specs.Limits.{contexts}
-use Rattle.tables.proofs.Showing.{shown, shown-none, shown-next, shown-all}
-use borrow.Author.Rules.{rules}
+use Rattle.tables.proofs.Showing.{shown}
 use Rattle.tables.proofs.show_table.Given as goal
 
 abbrev pub invariant-loop-i : goal.invariant-loop-i

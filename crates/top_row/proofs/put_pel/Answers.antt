@@ -1,10 +1,8 @@
 -- One pel in its context, in one of three ways. Assumes nothing.
-use Prim.Native.Nat.{◌-◌}
 use native.Mathlib.Omega.{arith}
 use mathlib.Core.Bool.{true, false}
 use Rattle.estimate.proofs.LawfulEntries.{row_sized}
 use Rattle.top_row.proofs.TopPels.{pelled-still, pelled-moved}
-use borrow.Author.Rules.{rules}
 use Rattle.top_row.proofs.put_pel.Goals as goal
 
 pub overflow_add-q : goal.overflow_add-q

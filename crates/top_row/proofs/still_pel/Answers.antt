@@ -1,7 +1,6 @@
 -- Its size is taken off the width, and that is all. Assumes nothing.
 use mathlib.Core.Path.{◌∙◌, ap}
 use Prim.Native.Nat.{ℕ}
-use borrow.Author.Rules.{rules}
 use mathlib.Core.Bool.{false}
 use Rattle.top.specs.declared.Top.{Top}
 use Rattle.top.specs.Top.{narrowed}

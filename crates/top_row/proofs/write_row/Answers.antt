@@ -1,13 +1,11 @@
 -- A row is written as the definition says: the loop's invariant is `RowAt`, and that a run reaches as far as it is
 -- known to. Assumes nothing.
 use mathlib.Core.Path.{◌≡◌, sym, ap, ◌∙◌, subst}
-use mathlib.Core.Logic.{⊎_elim}
 use mathlib.Core.Bool.{Bool}
 use Rattle.coder.specs.Writing.{counted}
-use Prim.Native.Nat.{ℕ, ◌+◌, ◌-◌, ◌*◌}
+use Prim.Native.Nat.{ℕ, ◌+◌, ◌*◌}
 use native.Mathlib.Numerals.{add-one}
 use native.Mathlib.Omega.{arith}
-use borrow.Author.Rules.{rules}
 use lib.ListN.{get_or, set}
 use Rattle.estimate.specs.Estimate.{LawfulTable}
 use Rattle.estimate.proofs.LawfulEntries.{row_sized}
@@ -19,7 +17,7 @@ use Rattle.template.proofs.White.{clear_none, clear_later}
 use Rattle.template.proofs.Sliding.{pels-bits, slid-context}
 use Rattle.estimate.specs.declared.Table.{Table}
 use Rattle.engine.proofs.Coded.{pelled-kept}
-use Rattle.row.proofs.WrittenRow.{RowAt, row-start, row-again, row_done, row-window, row_lawful}
+use Rattle.row.proofs.WrittenRow.{row-start, row-again, row_done, row-window, row_lawful}
 use Rattle.row.proofs.WrittenRow.{row_count, row-place, row-revisits, row-length}
 use Rattle.row.proofs.WrittenRuns.{row-run}
 use Rattle.top_row.specs.TopRow.{top_engine, given}

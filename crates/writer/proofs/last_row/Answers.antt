@@ -1,9 +1,9 @@
 -- The last row is copied byte by byte into zeros. Assumes nothing.
 use mathlib.Core.Path.{◌≡◌, refl}
-use Prim.Native.Nat.{◌-◌, ◌≤◌}
+use Prim.Native.Nat.{◌-◌}
 use native.Mathlib.Omega.{arith}
 use Rattle.writer.proofs.RowByRow.{rows_fit_lem}
-use Rattle.writer.proofs.LastRow.{Copied, copy_more, copy-end}
+use Rattle.writer.proofs.LastRow.{copy_more, copy-end}
 use Rattle.writer.proofs.last_row.Goals as goal
 
 pub row_bytes-bytes-requires : goal.row_bytes-bytes-requires

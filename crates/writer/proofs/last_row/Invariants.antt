@@ -1,8 +1,5 @@
-use mathlib.Core.Path.{◌≡◌, refl}
 use Prim.Native.Nat.{◌-◌, ◌≤◌}
-use native.Mathlib.Omega.{arith}
-use Rattle.writer.proofs.RowByRow.{rows_fit_lem}
-use Rattle.writer.proofs.LastRow.{Copied, copy_more, copy-end}
+use Rattle.writer.proofs.LastRow.{Copied}
 use Rattle.writer.proofs.last_row.Given as goal
 
 abbrev pub invariant-loop-i : goal.invariant-loop-i

@@ -1,5 +1,4 @@
 -- The desk's engine is one of the two. Assumes nothing.
-use borrow.Author.Rules.{rules}
 use Rattle.writer.proofs.write_band.Goals as goal
 
 pub returns : goal.returns

@@ -11,7 +11,7 @@ use Rattle.template.specs.Pels.{row_at, row_bytes}
 use Rattle.octets.specs.Fit.{Ready}
 use Rattle.octets.proofs.Fit.{ready-start}
 use Rattle.writer.specs.RowByRow.{BandAt}
-use Rattle.writer.proofs.RowByRow.{RowsKeep, band-first, start-count}
+use Rattle.writer.proofs.RowByRow.{band-first, start-count}
 use Rattle.writer.proofs.RowByRow.{keep-next, rows_fit_lem, row_inside, band-length, band-few}
 use Rattle.writer.proofs.write_rows.Goals as goal
 use Rattle.writer.proofs.write_rows.Goals.{After-row_bytes-bytes, After-write_first-run, At-loop-y}

@@ -23,7 +23,6 @@ use Rattle.template.specs.Pels.{row_bytes, band_padded}
 use Rattle.writer.specs.declared.Wrote.{Wrote}
 use Rattle.writing.proofs.WriteAnswers.{write-number, write-pels, write-padding, write-room, cleared-out}
 use Rattle.writing.proofs.WriteAnswers.{write-end, write-gave, write-lent, write-effect}
-use borrow.Author.Rules.{rules}
 use mathlib.Core.Bool.{Bool}
 use Rattle.parts.specs.Parts.{Whole}
 use Rattle.writing.proofs.write.Goals as goal

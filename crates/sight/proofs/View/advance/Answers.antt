@@ -1,8 +1,7 @@
 -- After k shifts: reading early what the shifts will need changes nothing. Assumes nothing.
 use mathlib.Core.Path.{◌≡◌, refl, sym, ap, ◌∙◌}
-use Prim.Native.Nat.{ℕ, ◌+◌, ◌-◌, ◌^◌, ◌≤◌, ◌<◌}
+use Prim.Native.Nat.{◌+◌}
 use native.Mathlib.Omega.{arith}
-use lib.ListN.{length}
 use Rattle.octets.specs.Octets.{bits}
 use Rattle.exact.specs.Sight.{Sight}
 use Rattle.sight.specs.Views.{sight_of, seeks}

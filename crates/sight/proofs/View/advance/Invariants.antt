@@ -1,12 +1,7 @@
-use mathlib.Core.Path.{◌≡◌, refl, sym, ap, ◌∙◌}
+use mathlib.Core.Path.{◌≡◌}
 use Prim.Native.Nat.{ℕ, ◌+◌, ◌-◌, ◌^◌, ◌≤◌, ◌<◌}
-use native.Mathlib.Omega.{arith}
 use lib.ListN.{length}
-use Rattle.octets.specs.Octets.{bits}
-use Rattle.exact.specs.Sight.{Sight}
 use Rattle.sight.specs.Views.{sight_of, seeks}
-use Rattle.sight.proofs.Views.{seeks-few, seeks-more}
-use Rattle.octets.proofs.Fit.{bits-few}
 use Rattle.sight.proofs.View.advance.Given as goal
 
 abbrev pub invariant-loop-v : goal.invariant-loop-v

@@ -1,5 +1,4 @@
 -- One byte more in sight. Assumes nothing.
-use borrow.Author.Rules.{rules}
 use mathlib.Core.Path.{refl}
 use native.Mathlib.Omega.{arith}
 use Rattle.sight.proofs.Views.{view-more, power_small, product_small}

@@ -2,7 +2,6 @@
 use Prim.Native.Nat.{ℕ, ◌-◌, ◌*◌, ◌/◌, ◌^◌, ◌≤◌}
 use native.Mathlib.Nat.{div-mul-le_self, mul-le-mul_right}
 use native.Mathlib.Omega.{arith}
-use borrow.Author.Rules.{rules}
 use Rattle.sight.proofs.View.room.Goals as goal
 
 told-fits : (x l n : ℕ) → n ≤ x / 2 ^ l → n * 2 ^ l ≤ x

@@ -1,5 +1,4 @@
 -- The first two bytes in sight. Assumes nothing.
-use borrow.Author.Rules.{rules}
 use mathlib.Core.Path.{refl}
 use native.Mathlib.Omega.{arith}
 use Rattle.sight.proofs.Views.{view-start, power_small, product_small}
