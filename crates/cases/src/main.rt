@@ -6,15 +6,16 @@ ghost use Rattle.parts.specs.Parts.{Sized};
 
 use limits::{CONTEXTS, PAGES, PLACES, ROW};
 use parts::Book;
+use std::io;
 
-fn width_line(name: &[u8], width: u64) {
+fn width_line(rt: &impl Print, name: &[u8], width: u64) -> io::Result<()> {
     let mut working = [[0u8; CONTEXTS]; PAGES];
     let mut rows = [[0u8; ROW]; PAGES];
     let mut learned = [[0u8; CONTEXTS]; PLACES];
     let book = parts::emptied(&mut working, &mut rows, &mut learned);
     let ask = lines::page_of(lines::key_of(1, 1), width);
     let opened = opening::open(book, &mut working, &mut rows, &mut learned, ask);
-    lines::line(name, opened.answer);
+    lines::line(rt, name, opened.answer)
 }
 
 // An empty desk with a page of that width for (school 1, class 1).
@@ -38,7 +39,7 @@ fn new_page<'a>(
 }
 
 // White rows, so many bytes in all.
-fn rows_line(name: &[u8], width: u64, count: u64, bytes: usize) {
+fn rows_line(rt: &impl Print, name: &[u8], width: u64, count: u64, bytes: usize) -> io::Result<()> {
     let mut working = [[0u8; CONTEXTS]; PAGES];
     let mut rows = [[0u8; ROW]; PAGES];
     let mut learned = [[0u8; CONTEXTS]; PLACES];
@@ -56,7 +57,7 @@ fn rows_line(name: &[u8], width: u64, count: u64, bytes: usize) {
         band,
         &mut out,
     );
-    lines::line(name, wrote.answer);
+    lines::line(rt, name, wrote.answer)
 }
 
 // A desk on which classes 1 to n have each been opened; each is closed again where that is asked.
@@ -90,48 +91,54 @@ fn with_classes<'a>(
 }
 
 // One class more than the n that the desk has seen.
-fn one_more(name: &[u8], n: u64, closed: bool) {
+fn one_more(rt: &impl Print, name: &[u8], n: u64, closed: bool) -> io::Result<()> {
     let mut working = [[0u8; CONTEXTS]; PAGES];
     let mut rows = [[0u8; ROW]; PAGES];
     let mut learned = [[0u8; CONTEXTS]; PLACES];
     let book = with_classes(&mut working, &mut rows, &mut learned, n, closed);
     let ask = lines::page_of(lines::key_of(1, 100), 1);
     let opened = opening::open(book, &mut working, &mut rows, &mut learned, ask);
-    lines::line(name, opened.answer);
+    lines::line(rt, name, opened.answer)
 }
 
 // A row on a new page of that width, into a buffer, which is then shown.
-fn buffer_line(name: &[u8], width: u64, row: &[u8], out: &mut [u8]) {
+fn buffer_line(
+    rt: &impl Print,
+    name: &[u8],
+    width: u64,
+    row: &[u8],
+    out: &mut [u8],
+) -> io::Result<()> {
     let mut working = [[0u8; CONTEXTS]; PAGES];
     let mut rows = [[0u8; ROW]; PAGES];
     let mut learned = [[0u8; CONTEXTS]; PLACES];
     let book = new_page(width, &mut working, &mut rows, &mut learned);
     let ask = lines::band_of(lines::key_of(1, 1), 1);
     let wrote = writing::write(book, &mut working, &mut rows, &mut learned, ask, row, out);
-    lines::put_text(name);
-    lines::put_answer(wrote.answer);
-    lines::put_text(b", buffer");
-    lines::put_bytes(out);
-    lines::put_text(b"\n");
+    lines::put_text(rt, name)?;
+    lines::put_answer(rt, wrote.answer)?;
+    lines::put_text(rt, b", buffer")?;
+    lines::put_bytes(rt, out)?;
+    lines::put_text(rt, b"\n")
 }
 
-fn main() {
-    width_line(b"Width 2,048", 2048);
-    width_line(b"Width 2,049", 2049);
-    rows_line(b"64 rows", 1, 64, 64);
-    rows_line(b"65 rows", 1, 65, 65);
-    rows_line(b"5 white pels", 5, 1, 1);
-    rows_line(b"64 white rows of 2,048 pels", 2048, 64, 64 * ROW);
-    one_more(b"Fourth open page", 3, false);
-    one_more(b"Fifth open page", 4, false);
-    one_more(b"Eighth class", 7, true);
-    one_more(b"Ninth class", 8, true);
+fn main(rt: HostRuntime) -> io::Result<()> {
+    width_line(&rt, b"Width 2,048", 2048)?;
+    width_line(&rt, b"Width 2,049", 2049)?;
+    rows_line(&rt, b"64 rows", 1, 64, 64)?;
+    rows_line(&rt, b"65 rows", 1, 65, 65)?;
+    rows_line(&rt, b"5 white pels", 5, 1, 1)?;
+    rows_line(&rt, b"64 white rows of 2,048 pels", 2048, 64, 64 * ROW)?;
+    one_more(&rt, b"Fourth open page", 3, false)?;
+    one_more(&rt, b"Fifth open page", 4, false)?;
+    one_more(&rt, b"Eighth class", 7, true)?;
+    one_more(&rt, b"Ninth class", 8, true)?;
     let mut both = [255u8; 2];
-    buffer_line(b"P1 into 2 bytes", 1, b"\x00", &mut both);
+    buffer_line(&rt, b"P1 into 2 bytes", 1, b"\x00", &mut both)?;
     let mut short = [255u8; 1];
-    buffer_line(b"P1 into 1 byte", 1, b"\x00", &mut short);
+    buffer_line(&rt, b"P1 into 1 byte", 1, b"\x00", &mut short)?;
     let mut four = [255u8; 4];
-    buffer_line(b"E6 60 into 4 bytes", 13, b"\xE6\x60", &mut four);
+    buffer_line(&rt, b"E6 60 into 4 bytes", 13, b"\xE6\x60", &mut four)?;
     let mut three = [255u8; 3];
-    buffer_line(b"E6 60 into 3 bytes", 13, b"\xE6\x60", &mut three);
+    buffer_line(&rt, b"E6 60 into 3 bytes", 13, b"\xE6\x60", &mut three)
 }

@@ -7,6 +7,7 @@ ghost use Rattle.parts.specs.Parts.{Sized};
 use desk::{Ask, Direction, Key, Opening};
 use limits::{CONTEXTS, PAGES, PLACES, ROW};
 use parts::Book;
+use std::io;
 
 fn the_key() -> Key {
     Key {
@@ -36,13 +37,14 @@ fn new_page<'a>(
 
 // The line of one code: its name and bytes, the answer's number, length and S, and the buffer of two bytes after it.
 fn line<'a, 'b, 'c>(
+    rt: &impl Print,
     name: &'b [u8],
     book: Book,
     working: &'a mut [[u8; CONTEXTS]; PAGES],
     rows: &'a mut [[u8; ROW]; PAGES],
     learned: &'a mut [[u8; CONTEXTS]; PLACES],
     code: &'c [u8],
-) -> Book
+) -> io::Result<Book>
     requires { Sized working.old rows.old learned.old }
     ensures { Sized working.new rows.new learned.new }
 {
@@ -52,91 +54,101 @@ fn line<'a, 'b, 'c>(
         rows: 1,
     };
     let read = reading::read(book, working, rows, learned, ask, code, &mut out);
-    lines::put_text(name);
-    lines::put_bytes(code);
-    lines::put_answer(read.answer);
-    lines::put_text(b", buffer");
-    lines::put_bytes(&out);
-    lines::put_text(b"\n");
-    read.book
+    lines::put_text(rt, name)?;
+    lines::put_bytes(rt, code)?;
+    lines::put_answer(rt, read.answer)?;
+    lines::put_text(rt, b", buffer")?;
+    lines::put_bytes(rt, &out)?;
+    lines::put_text(rt, b"\n")?;
+    Ok(read.book)
 }
 
 // A code on a new page of that width.
-fn of_width(width: u64, name: &[u8], code: &[u8]) {
+fn of_width(rt: &impl Print, width: u64, name: &[u8], code: &[u8]) -> io::Result<()> {
     let mut working = [[0u8; CONTEXTS]; PAGES];
     let mut rows = [[0u8; ROW]; PAGES];
     let mut learned = [[0u8; CONTEXTS]; PLACES];
     let book = new_page(width, &mut working, &mut rows, &mut learned);
-    line(name, book, &mut working, &mut rows, &mut learned, code);
+    line(rt, name, book, &mut working, &mut rows, &mut learned, code)?;
+    Ok(())
 }
 
 // A code on a new page of width 1.
-fn first(name: &[u8], code: &[u8]) {
-    of_width(1, name, code);
+fn first(rt: &impl Print, name: &[u8], code: &[u8]) -> io::Result<()> {
+    of_width(rt, 1, name, code)
 }
 
 // P1's code with one bit flipped, at each of its 16 positions.
-fn flips() {
+fn flips(rt: &impl Print) -> io::Result<()> {
     let mut bit: u8 = 128;
     while bit > 0 {
-        first(b"P1, one bit flipped,", &[0xAC ^ bit, 0x10]);
+        first(rt, b"P1, one bit flipped,", &[0xAC ^ bit, 0x10])?;
         bit /= 2;
     }
     bit = 128;
     while bit > 0 {
-        first(b"P1, one bit flipped,", &[0xAC, 0x10 ^ bit]);
+        first(rt, b"P1, one bit flipped,", &[0xAC, 0x10 ^ bit])?;
         bit /= 2;
     }
+    Ok(())
 }
 
 // After a damaged band the page stays open, and the band may be sent again.
-fn sent_again() {
+fn sent_again(rt: &impl Print) -> io::Result<()> {
     let mut working = [[0u8; CONTEXTS]; PAGES];
     let mut rows = [[0u8; ROW]; PAGES];
     let mut learned = [[0u8; CONTEXTS]; PLACES];
     let a = new_page(1, &mut working, &mut rows, &mut learned);
     let b = line(
+        rt,
         b"Damaged on its way,",
         a,
         &mut working,
         &mut rows,
         &mut learned,
         b"\xAC\x11",
-    );
+    )?;
     line(
+        rt,
         b"Sent again,",
         b,
         &mut working,
         &mut rows,
         &mut learned,
         b"\xAC\x10",
-    );
+    )?;
+    Ok(())
 }
 
 // A marker is a byte of 90 or more just after an FF, wherever it stands. It is told where there is room for the row.
-fn markers() {
-    first(b"FF 8F in place of P1,", b"\xFF\x8F");
-    first(b"FF 90 in place of P1,", b"\xFF\x90");
-    first(b"P1, FF 8F in it,", b"\xAC\xFF\x8F\x10");
-    first(b"P1, FF 90 in it,", b"\xAC\xFF\x90\x10");
-    first(b"P1, FF 90 after it,", b"\xAC\x10\xFF\x90");
-    first(b"P1, FF FF after it,", b"\xAC\x10\xFF\xFF");
-    first(b"P1, FF after it,", b"\xAC\x10\xFF");
-    of_width(17, b"FF 90 in 17 pels,", b"\xFF\x90");
+fn markers(rt: &impl Print) -> io::Result<()> {
+    first(rt, b"FF 8F in place of P1,", b"\xFF\x8F")?;
+    first(rt, b"FF 90 in place of P1,", b"\xFF\x90")?;
+    first(rt, b"P1, FF 8F in it,", b"\xAC\xFF\x8F\x10")?;
+    first(rt, b"P1, FF 90 in it,", b"\xAC\xFF\x90\x10")?;
+    first(rt, b"P1, FF 90 after it,", b"\xAC\x10\xFF\x90")?;
+    first(rt, b"P1, FF FF after it,", b"\xAC\x10\xFF\xFF")?;
+    first(rt, b"P1, FF after it,", b"\xAC\x10\xFF")?;
+    of_width(rt, 17, b"FF 90 in 17 pels,", b"\xFF\x90")
 }
 
-fn main() {
-    first(b"P1,", b"\xAC\x10");
-    first(b"P2,", b"\x00\x00");
-    first(b"P1, last byte one more,", b"\xAC\x11");
-    first(b"P2, a zero byte more,", b"\x00\x00\x00");
-    first(b"The empty code", b"");
-    first(b"P1, cut by one byte,", b"\xAC");
-    first(b"P1, a zero byte more,", b"\xAC\x10\x00");
-    flips();
-    markers();
-    sent_again();
-    of_width(13, b"E6 60 in 13 pels,", b"\x15\x6E\xFF\x00");
-    of_width(13, b"E6 60, FF not followed by 00,", b"\x15\x6E\xFF");
-    of_width(13, b"E6 60, a zero byte more,", b"\x15\x6E\xFF\x00\x00");
+fn main(rt: HostRuntime) -> io::Result<()> {
+    first(&rt, b"P1,", b"\xAC\x10")?;
+    first(&rt, b"P2,", b"\x00\x00")?;
+    first(&rt, b"P1, last byte one more,", b"\xAC\x11")?;
+    first(&rt, b"P2, a zero byte more,", b"\x00\x00\x00")?;
+    first(&rt, b"The empty code", b"")?;
+    first(&rt, b"P1, cut by one byte,", b"\xAC")?;
+    first(&rt, b"P1, a zero byte more,", b"\xAC\x10\x00")?;
+    flips(&rt)?;
+    markers(&rt)?;
+    sent_again(&rt)?;
+    of_width(&rt, 13, b"E6 60 in 13 pels,", b"\x15\x6E\xFF\x00")?;
+    of_width(&rt, 13, b"E6 60, FF not followed by 00,", b"\x15\x6E\xFF")?;
+    of_width(
+        &rt,
+        13,
+        b"E6 60, a zero byte more,",
+        b"\x15\x6E\xFF\x00\x00",
+    )
 }

@@ -9,18 +9,19 @@ ghost use Rattle.template.specs.Pels.{row_bytes};
 
 use estimate::Table;
 use limits::{CONTEXTS, ROW};
+use std::io;
 use writer::Wrote;
 
 // The line of one band by one engine.
-fn line(name: &[u8], engine: &[u8], code: &[u8], wrote: Wrote) {
-    lines::put_text(name);
-    lines::put_text(engine);
-    lines::put_bytes(store::front_of(code, wrote.length));
-    lines::put_text(b" S=");
-    lines::put_number(wrote.shifts);
-    lines::put_text(b" revisited=");
-    lines::put_number(wrote.revisits);
-    lines::put_text(b"\n");
+fn line(rt: &impl Print, name: &[u8], engine: &[u8], code: &[u8], wrote: Wrote) -> io::Result<()> {
+    lines::put_text(rt, name)?;
+    lines::put_text(rt, engine)?;
+    lines::put_bytes(rt, store::front_of(code, wrote.length))?;
+    lines::put_text(rt, b" S=")?;
+    lines::put_number(rt, wrote.shifts)?;
+    lines::put_text(rt, b" revisited=")?;
+    lines::put_number(rt, wrote.revisits)?;
+    lines::put_text(rt, b"\n")
 }
 
 // The table of a new page.
@@ -33,7 +34,7 @@ fn fresh() -> Table
 }
 
 // One band by both.
-fn both(name: &[u8], width: usize, rows: usize, pels: &[u8])
+fn both(rt: &impl Print, name: &[u8], width: usize, rows: usize, pels: &[u8]) -> io::Result<()>
     requires { (1 ≤ width) × (width ≤ max_width) × (1 ≤ rows) × (rows ≤ max_rows)
         × (length pels.now ≡ rows * row_bytes width) }
 {
@@ -41,29 +42,31 @@ fn both(name: &[u8], width: usize, rows: usize, pels: &[u8])
     let last = [0u8; ROW];
     let mut out = [0u8; 32];
     let first = writer::write_by(table, last, width, rows, pels, &mut out, false);
-    line(name, b" first: ", &out, first);
+    line(rt, name, b" first: ", &out, first)?;
     let second = writer::write_by(table, last, width, rows, pels, &mut out, true);
-    line(name, b" second:", &out, second);
+    line(rt, name, b" second:", &out, second)
 }
 
-fn main() {
-    both(b"P1", 1, 1, b"\x00");
-    both(b"P2", 1, 1, b"\x80");
-    both(b"P3", 2, 1, b"\x00");
-    both(b"P4", 2, 1, b"\x40");
-    both(b"P5", 2, 1, b"\x80");
-    both(b"P6", 2, 1, b"\xC0");
-    both(b"P8", 1, 2, b"\x00\x00");
+fn main(rt: HostRuntime) -> io::Result<()> {
+    both(&rt, b"P1", 1, 1, b"\x00")?;
+    both(&rt, b"P2", 1, 1, b"\x80")?;
+    both(&rt, b"P3", 2, 1, b"\x00")?;
+    both(&rt, b"P4", 2, 1, b"\x40")?;
+    both(&rt, b"P5", 2, 1, b"\x80")?;
+    both(&rt, b"P6", 2, 1, b"\xC0")?;
+    both(&rt, b"P8", 1, 2, b"\x00\x00")?;
     both(
+        &rt,
         b"a carry in a stuff bit",
         32,
         4,
         b"\xB6\x16\xB4\xD6\x1E\xF2\x90\x21\xFE\x64\xCB\x11\xB8\x02\x03\xC4",
-    );
+    )?;
     both(
+        &rt,
         b"a last FF",
         32,
         4,
         b"\x25\x64\x8D\x68\xA0\x56\xA5\xAB\x81\x75\xB9\xD6\x90\x98\xC9\xE4",
-    );
+    )
 }

@@ -2,42 +2,43 @@
 #![tactic(auto)]
 
 use desk::{Answer, Ask, Direction, Key, Opening};
-use libc::STDOUT_FILENO;
+use std::io;
 
 const DIGITS: [u8; 16] = *b"0123456789ABCDEF";
 
-pub fn put_text(text: &[u8]) {
-    io::write_all(STDOUT_FILENO, text);
+pub fn put_text(rt: &impl Print, text: &[u8]) -> io::Result<()> {
+    rt.write_all(text)
 }
 
-pub fn put_number(n: u64) {
-    io::print_decimal(STDOUT_FILENO, n);
+pub fn put_number(rt: &impl Print, n: u64) -> io::Result<()> {
+    print!(rt; "{n}")
 }
 
 // A space, then the byte's two digits.
-pub fn put_hex(b: u8) {
+pub fn put_hex(rt: &impl Print, b: u8) -> io::Result<()> {
     let text = [b' ', DIGITS[(b / 16) as usize], DIGITS[(b % 16) as usize]];
-    put_text(&text);
+    put_text(rt, &text)
 }
 
-pub fn put_bytes(bytes: &[u8]) {
+pub fn put_bytes(rt: &impl Print, bytes: &[u8]) -> io::Result<()> {
     let mut i: usize = 0;
     while i < bytes.len() {
-        put_hex(bytes[i]);
+        put_hex(rt, bytes[i])?;
         i += 1;
     }
+    Ok(())
 }
 
 // What follows the name of what was asked.
-pub fn put_answer(a: Answer) {
-    put_text(b": answer ");
-    put_number(a.number);
-    put_text(b", length ");
-    put_number(a.length);
-    put_text(b", S ");
-    put_number(a.shifts);
-    put_text(b", revisits ");
-    put_number(a.revisits);
+pub fn put_answer(rt: &impl Print, a: Answer) -> io::Result<()> {
+    put_text(rt, b": answer ")?;
+    put_number(rt, a.number)?;
+    put_text(rt, b", length ")?;
+    put_number(rt, a.length)?;
+    put_text(rt, b", S ")?;
+    put_number(rt, a.shifts)?;
+    put_text(rt, b", revisits ")?;
+    put_number(rt, a.revisits)
 }
 
 pub fn key_of(school: u64, class: u64) -> Key {
@@ -65,8 +66,8 @@ pub fn band_of(key: Key, count: u64) -> Ask {
 }
 
 // A line: the name of what was asked, and the answer.
-pub fn line(name: &[u8], a: Answer) {
-    put_text(name);
-    put_answer(a);
-    put_text(b"\n");
+pub fn line(rt: &impl Print, name: &[u8], a: Answer) -> io::Result<()> {
+    put_text(rt, name)?;
+    put_answer(rt, a)?;
+    put_text(rt, b"\n")
 }

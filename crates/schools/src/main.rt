@@ -6,20 +6,21 @@ ghost use Rattle.parts.specs.Parts.{Sized};
 use desk::Key;
 use limits::{CONTEXTS, PAGES, PLACES, ROW};
 use parts::Book;
+use std::io;
 
 // The contexts whose byte is not 00.
-fn put_contexts(table: &[u8]) {
+fn put_contexts(rt: &impl Print, table: &[u8]) -> io::Result<()> {
     let mut i: usize = 0;
     while i < table.len() {
         if table[i] != 0 {
-            lines::put_text(b", context ");
-            lines::put_number(i as u64);
-            lines::put_text(b" is");
-            lines::put_hex(table[i]);
+            lines::put_text(rt, b", context ")?;
+            lines::put_number(rt, i as u64)?;
+            lines::put_text(rt, b" is")?;
+            lines::put_hex(rt, table[i])?;
         }
         i += 1;
     }
-    lines::put_text(b", elsewhere 00");
+    lines::put_text(rt, b", elsewhere 00")
 }
 
 // An empty desk with a page of width 1 for (school 1, class 1).
@@ -43,6 +44,7 @@ fn new_page<'a>(
 
 // One band of one row, its code shown; the book after it.
 fn code_line<'a, 'b, 'c>(
+    rt: &impl Print,
     name: &'b [u8],
     book: Book,
     working: &'a mut [[u8; CONTEXTS]; PAGES],
@@ -50,7 +52,7 @@ fn code_line<'a, 'b, 'c>(
     learned: &'a mut [[u8; CONTEXTS]; PLACES],
     key: Key,
     pels: &'c [u8],
-) -> Book
+) -> io::Result<Book>
     requires { Sized working.old rows.old learned.old }
     ensures { Sized working.new rows.new learned.new }
 {
@@ -64,20 +66,21 @@ fn code_line<'a, 'b, 'c>(
         pels,
         &mut out,
     );
-    lines::put_text(name);
-    lines::put_answer(wrote.answer);
-    lines::put_text(b", code");
-    lines::put_bytes(store::front_of(&out, wrote.answer.length as usize));
-    lines::put_text(b"\n");
-    wrote.book
+    lines::put_text(rt, name)?;
+    lines::put_answer(rt, wrote.answer)?;
+    lines::put_text(rt, b", code")?;
+    lines::put_bytes(rt, store::front_of(&out, wrote.answer.length as usize))?;
+    lines::put_text(rt, b"\n")?;
+    Ok(wrote.book)
 }
 
 // An empty desk on which two classes of the same number, of two schools, have been opened.
 fn both_opened<'a>(
+    rt: &impl Print,
     working: &'a mut [[u8; CONTEXTS]; PAGES],
     rows: &'a mut [[u8; ROW]; PAGES],
     learned: &'a mut [[u8; CONTEXTS]; PLACES],
-) -> Book
+) -> io::Result<Book>
     ensures { Sized working.new rows.new learned.new }
 {
     let book = parts::emptied(working, rows, learned);
@@ -88,7 +91,7 @@ fn both_opened<'a>(
         learned,
         lines::page_of(lines::key_of(1, 5), 1),
     );
-    lines::line(b"School 1, class 5 opened", a.answer);
+    lines::line(rt, b"School 1, class 5 opened", a.answer)?;
     let b = opening::open(
         a.book,
         working,
@@ -96,33 +99,72 @@ fn both_opened<'a>(
         learned,
         lines::page_of(lines::key_of(2, 5), 1),
     );
-    lines::line(b"School 2, class 5 opened beside it", b.answer);
-    b.book
+    lines::line(rt, b"School 2, class 5 opened beside it", b.answer)?;
+    Ok(b.book)
 }
 
 // Each of the two pages has its own table and last row.
 fn two_schools<'a>(
+    rt: &impl Print,
     working: &'a mut [[u8; CONTEXTS]; PAGES],
     rows: &'a mut [[u8; ROW]; PAGES],
     learned: &'a mut [[u8; CONTEXTS]; PLACES],
-) {
+) -> io::Result<()> {
     let one = lines::key_of(1, 5);
     let two = lines::key_of(2, 5);
-    let a = both_opened(working, rows, learned);
-    let b = code_line(b"P2 by school 1", a, working, rows, learned, one, b"\x80");
-    let c = code_line(b"P1 by school 2", b, working, rows, learned, two, b"\x00");
-    let d = code_line(b"P9 by school 1", c, working, rows, learned, one, b"\x80");
-    code_line(b"P7 by school 2", d, working, rows, learned, two, b"\x00");
+    let a = both_opened(rt, working, rows, learned)?;
+    let b = code_line(
+        rt,
+        b"P2 by school 1",
+        a,
+        working,
+        rows,
+        learned,
+        one,
+        b"\x80",
+    )?;
+    let c = code_line(
+        rt,
+        b"P1 by school 2",
+        b,
+        working,
+        rows,
+        learned,
+        two,
+        b"\x00",
+    )?;
+    let d = code_line(
+        rt,
+        b"P9 by school 1",
+        c,
+        working,
+        rows,
+        learned,
+        one,
+        b"\x80",
+    )?;
+    code_line(
+        rt,
+        b"P7 by school 2",
+        d,
+        working,
+        rows,
+        learned,
+        two,
+        b"\x00",
+    )?;
+    Ok(())
 }
 
 // The page is closed, and its class's table looked at.
 fn look_line<'a, 'b>(
+    rt: &impl Print,
     name: &'b [u8],
     book: Book,
     working: &'a mut [[u8; CONTEXTS]; PAGES],
     rows: &'a mut [[u8; ROW]; PAGES],
     learned: &'a mut [[u8; CONTEXTS]; PLACES],
-)
+) -> io::Result<()>
     requires { Sized working.old rows.old learned.old }
 {
     let mut out = [255u8; CONTEXTS];
@@ -135,49 +177,59 @@ fn look_line<'a, 'b>(
         lines::key_of(1, 1),
         &mut out,
     );
-    lines::put_text(name);
-    lines::put_answer(seen.answer);
-    put_contexts(&out);
-    lines::put_text(b"\n");
+    lines::put_text(rt, name)?;
+    lines::put_answer(rt, seen.answer)?;
+    put_contexts(rt, &out)?;
+    lines::put_text(rt, b"\n")
 }
 
 // Each look starts from an empty desk.
 fn look_after_p1<'a>(
+    rt: &impl Print,
     working: &'a mut [[u8; CONTEXTS]; PAGES],
     rows: &'a mut [[u8; ROW]; PAGES],
     learned: &'a mut [[u8; CONTEXTS]; PLACES],
-) {
+) -> io::Result<()> {
     let ask = lines::band_of(lines::key_of(1, 1), 1);
     let mut out = [0u8; 8];
     let a = new_page(working, rows, learned);
     let p1 = writing::write(a, working, rows, learned, ask, b"\x00", &mut out);
-    look_line(b"Look after P1 and close", p1.book, working, rows, learned);
+    look_line(
+        rt,
+        b"Look after P1 and close",
+        p1.book,
+        working,
+        rows,
+        learned,
+    )
 }
 
 fn look_after_p9<'a>(
+    rt: &impl Print,
     working: &'a mut [[u8; CONTEXTS]; PAGES],
     rows: &'a mut [[u8; ROW]; PAGES],
     learned: &'a mut [[u8; CONTEXTS]; PLACES],
-) {
+) -> io::Result<()> {
     let ask = lines::band_of(lines::key_of(1, 1), 1);
     let mut out = [0u8; 8];
     let a = new_page(working, rows, learned);
     let p2 = writing::write(a, working, rows, learned, ask, b"\x80", &mut out);
     let p9 = writing::write(p2.book, working, rows, learned, ask, b"\x80", &mut out);
     look_line(
+        rt,
         b"Look after P2, P9 and close",
         p9.book,
         working,
         rows,
         learned,
-    );
+    )
 }
 
-fn main() {
+fn main(rt: HostRuntime) -> io::Result<()> {
     let mut working = [[0u8; CONTEXTS]; PAGES];
     let mut rows = [[0u8; ROW]; PAGES];
     let mut learned = [[0u8; CONTEXTS]; PLACES];
-    two_schools(&mut working, &mut rows, &mut learned);
-    look_after_p1(&mut working, &mut rows, &mut learned);
-    look_after_p9(&mut working, &mut rows, &mut learned);
+    two_schools(&rt, &mut working, &mut rows, &mut learned)?;
+    look_after_p1(&rt, &mut working, &mut rows, &mut learned)?;
+    look_after_p9(&rt, &mut working, &mut rows, &mut learned)
 }

@@ -5,8 +5,7 @@ use native.Mathlib.Omega.{arith}
 use lib.ListN.{replicate, get_or, get_or-replicate, get_or-eq_default, length-replicate}
 use Rattle.limits.specs.Limits.{contexts}
 use Rattle.estimate.specs.Estimate.{LawfulTable}
-use Rattle.engines.proofs.fresh.Statement.{statement}
-use Rattle.engines.proofs.fresh.Tie as tie
+use Rattle.engines.proofs.fresh.Goals as goal
 
 zeros : (n : ℕ) → LawfulTable (replicate n 0)
 zeros n cx = go (dec_lt cx n)
@@ -19,8 +18,5 @@ zeros n cx = go (dec_lt cx n)
           (rw (length-replicate {A = ℕ} n 0) (omega arith)),
     )
 
-returns : tie.Need-returns
+pub returns : goal.returns
 returns c = zeros contexts
-
-pub fresh-spec : {M : Type 1} → statement M
-fresh-spec = tie.close (tie.spec returns)
