@@ -93,15 +93,14 @@ impl Parsed {
         self.heads.pop();
     }
 
-    /// `open Record value using (names)`: the record is named, the names are
-    /// known from here on.
+    /// `open value use {names}`: the names are known from here on.
     fn open(&mut self, chunk: &Chunk, words: &[String]) {
         let Some(head) = self.heads.last_mut() else {
             return;
         };
-        let using = words.iter().position(|w| w == "using");
-        let at = using.unwrap_or(words.len());
-        let plain = |w: &&String| !matches!(w.as_str(), "(" | ")" | ",");
+        let names = words.iter().position(|w| w == "use");
+        let at = names.unwrap_or(words.len());
+        let plain = |w: &&String| !matches!(w.as_str(), "{" | "}" | ",");
         head.tokens.extend_from_slice(&words[1..at]);
         head.known
             .extend(words.iter().skip(at + 1).filter(plain).cloned());
@@ -167,7 +166,7 @@ mod tests {
     #[test]
     fn blocks_give_their_heads_to_what_stands_in_them() {
         let parsed = parse(
-            "module _ (S : Service)\n    (k : Key) where\n  open Service S using (Key, same)\n\n  -- own\n  own : ℕ\n  own = 0\n\n  module _ (n : ℕ) where\n    deep : ℕ\n    deep = n\n\nafter : ℕ\nafter = 1\n",
+            "module _ (S : Service)\n    (k : Key) where\n  open S use {Key, same}\n\n  -- own\n  own : ℕ\n  own = 0\n\n  module _ (n : ℕ) where\n    deep : ℕ\n    deep = n\n\nafter : ℕ\nafter = 1\n",
         );
         assert_eq!(names(&parsed), ["own", "deep", "after"]);
         let [own, deep, after] = &parsed.decls[..] else {

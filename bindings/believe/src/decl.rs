@@ -77,9 +77,9 @@ impl Decl {
     }
 
     /// Whether it is known by that name: its own, or a constructor's. An
-    /// operator `_+_` is also written `+`.
+    /// operator `◌+◌` is also written `+`.
     pub fn answers_to(&self, name: &str) -> bool {
-        let is = |own: &str| own == name || own.trim_matches('_') == name;
+        let is = |own: &str| own == name || own.trim_matches('◌') == name;
         is(&self.name) || self.constructs(name)
     }
 

@@ -89,7 +89,7 @@ mod tests {
     use crate::tree::File;
 
     const TEXT: &str = "\
-use lib.L.{ℕ, List, _≡_}
+use lib.L.{ℕ, List, ◌≡◌}
 
 pub record Fits (n : ℕ) : Type 0 where
   pub size : n ≡ 0

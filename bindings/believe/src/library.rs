@@ -4,17 +4,17 @@
 const MEANINGS: &[(&str, &str)] = &[
     ("ℕ", "the natural numbers"),
     ("suc", "one more"),
-    ("_-_", "0 where the second is larger"),
-    ("_/_", "the whole part"),
-    ("_%_", "the remainder"),
-    ("_^_", "the power"),
+    ("◌-◌", "0 where the second is larger"),
+    ("◌/◌", "the whole part"),
+    ("◌%◌", "the remainder"),
+    ("◌^◌", "the power"),
     ("eqb", "equal, as a test"),
     ("leb", "at most, as a test"),
     ("ltb", "less, as a test"),
     ("drop", "`drop n l`: `l` without its first n"),
     (
-        "getD",
-        "`getD l i d`: the element i of `l`, counted from 0; `d` past its end",
+        "get_or",
+        "`get_or l i d`: the element i of `l`, counted from 0; `d` past its end",
     ),
     ("replicate", "`replicate n a`: n times `a`"),
     (
@@ -27,18 +27,14 @@ const MEANINGS: &[(&str, &str)] = &[
         "`cond b x y`: `x` where `b` is true, `y` where it is false",
     ),
     ("[]", "the empty list"),
-    ("_∷_", "an element before a list"),
-    ("_++_", "one list after another"),
+    ("◌∷◌", "an element before a list"),
+    ("◌++◌", "one list after another"),
     ("map", "`map f l`: `f` of each element"),
-    ("_≡_", "equal"),
-    ("_≢_", "not equal"),
-    ("_⊎_", "or"),
+    ("◌≡◌", "equal"),
+    ("◌≢◌", "not equal"),
+    ("◌⊎◌", "or"),
     ("Option", "`some` of something, or `none`"),
     ("size", "the bytes that a type takes in memory"),
-    (
-        "now",
-        "what a borrowed value holds: `now (out .entry)` at the call's start, `now (out .exit)` at its end",
-    ),
     ("×", "and"),
     ("⊥", "what never holds: `A → ⊥` says that `A` does not"),
     ("Unit", "what always holds"),
@@ -51,11 +47,7 @@ const MEANINGS: &[(&str, &str)] = &[
 /// A name, with its meaning where it is worth a word.
 pub fn shown(name: &str) -> String {
     let word = MEANINGS.iter().find(|(own, _)| *own == name);
-    let plain = if name == "_" {
-        name
-    } else {
-        name.trim_matches('_')
-    };
+    let plain = name.trim_matches('◌');
     match word {
         Some((_, meaning)) => format!("`{plain}` ({meaning})"),
         None => format!("`{plain}`"),

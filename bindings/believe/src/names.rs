@@ -6,9 +6,9 @@ use crate::token::{is_close, is_open, outside};
 use std::collections::BTreeSet;
 
 /// Words of the language that name nothing.
-const WORDS: [&str; 19] = [
+const WORDS: [&str; 21] = [
     ":", "=", "→", "←", "λ", ".", ",", ";", "|", "↦", "in", "let", "record", "where", "_", "@",
-    "requires", "ensures", "∀",
+    "requires", "requires*", "ensures", "ensures*", "∀",
 ];
 
 /// Tells constructors from variables in a pattern.
@@ -164,7 +164,10 @@ impl Reading<'_> {
         let label = next == Some("=") && matches!(before, Some("{" | ";"));
         let number = word.starts_with(|c: char| c.is_ascii_digit());
         let field = word.starts_with('.');
-        if is_plain(word) && !label && !number && !field && !self.known.contains(word) {
+        let is_known = |name: &str| self.known.iter().any(|own| own == name);
+        // `p.low` names `p`, and a field of it
+        let of_known = word.split_once('.').is_some_and(|(first, _)| is_known(first));
+        if is_plain(word) && !label && !number && !field && !is_known(word) && !of_known {
             self.free.insert(word.clone());
         }
     }
@@ -184,7 +187,7 @@ mod tests {
 
     #[test]
     fn parameters_hide_names() {
-        let text = "law : (row : Row) {n : ℕ} → f row n ≡ {A = B} row .row\nlaw r = proof";
+        let text = "law : (row : Row) {n : ℕ} → f row n ≡ {A = B} row.row\nlaw r = proof";
         assert_eq!(of(text, false), "B Row f ℕ ≡");
     }
 
@@ -209,13 +212,19 @@ mod tests {
 
     #[test]
     fn a_literal_names_values_and_not_fields() {
-        let text = "f : R\nf = record { size = rowOf; next = next }";
-        assert_eq!(of(text, true), "R next rowOf");
+        let text = "f : R\nf = record { size = row_of; next = next }";
+        assert_eq!(of(text, true), "R next row_of");
+    }
+
+    #[test]
+    fn a_field_belongs_to_what_stands_before_it() {
+        let text = "f : Row → ℕ\nf r = g r.low (h r).high.width r.0 + one.size";
+        assert_eq!(of(text, true), "+ Row g h one.size ℕ");
     }
 
     #[test]
     fn a_block_gives_its_parameters() {
-        let text = "module _ (S : Service) where\n  open Service S using (Key)\n  f : Key → S .Call → ℕ\n  f k c = g k\n    where\n      g : Key → ℕ\n      g j = h j";
+        let text = "module _ (S : Service) where\n  open S use {Key}\n  f : Key → S.Call → ℕ\n  f k c = g k\n    where\n      g : Key → ℕ\n      g j = h j";
         assert_eq!(of(text, true), "Service h ℕ");
     }
 }

@@ -9,9 +9,11 @@ Where a declaration stands in a block (`module _ (..) where`), the block's first
 stands in the block is said of all that they name. Of a *law* only the statement is here, since its proof is checked; \
 of a *contract* only the function's head, since its body is proved.
 
-In the sources `p .field` is a field, `λ x. e` a function, and `record { .. }` a record by its fields. `pub`, `abbrev` \
-and `unfoldable` say who may use and open a definition; they change no meaning. A struct or an enum of the code is a \
-record or a data type of the same name in the specs; its numbers are natural numbers there, its arrays and slices lists.
+In the sources `p.field` is a field, `λ x. e` a function, and `record { .. }` a record by its fields; `◌+◌` in an \
+import is the operator `+`. `pub`, `abbrev` and `unfoldable` say who may use and open a definition; they change no \
+meaning. A struct or an enum of the code is a record or a data type of the same name in the specs; its numbers are \
+natural numbers there, its arrays and slices lists. In a contract `x.now` is what a lent `x` holds, `x.old` what it \
+holds at the call's start and `x.new` at its end, where the call may change it, and `result` is what the call answers.
 ";
 
 /// Numbers in a row as `3-5`.

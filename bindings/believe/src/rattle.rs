@@ -69,6 +69,31 @@ fn parameters(text: &str) -> Vec<String> {
     names.filter_map(last).collect()
 }
 
+/// Whether a word begins a clause.
+fn is_clause(word: &str) -> bool {
+    matches!(word.trim_end_matches('*'), "requires" | "ensures")
+}
+
+/// Where the clauses of a function's head begin.
+fn contract(head: &str) -> usize {
+    let lines = head.split_inclusive('\n');
+    let begins = |line: &&str| line.split_whitespace().next().is_some_and(is_clause);
+    lines.take_while(|line| !begins(line)).map(str::len).sum()
+}
+
+/// The clauses' words without their own names: `ensures low { .. }`.
+fn unnamed(tokens: &[String]) -> Vec<String> {
+    let mut kept: Vec<String> = Vec::new();
+    for (at, word) in tokens.iter().enumerate() {
+        let opens = word != "{" && tokens.get(at + 1).is_some_and(|next| next == "{");
+        let names = opens && kept.last().is_some_and(|last| is_clause(last));
+        if !names {
+            kept.push(word.clone());
+        }
+    }
+    kept
+}
+
 /// The lines of a function before its body.
 fn head(lines: &[Line]) -> &[Line] {
     let opens = |line: &Line| line.code.starts_with('{');
@@ -126,12 +151,13 @@ impl Parsed {
         let mut decl = Decl::new(name, form, source::sentence(&chunk.notes));
         let head = head(chunk.lines);
         let text = text(head);
-        let ends = ["requires {", "ensures {"].map(|word| text.find(word));
-        let at = ends.into_iter().flatten().min().unwrap_or(text.len());
+        let at = contract(&text);
         decl.code = words(&text[..at]);
-        decl.statement = of_text(&text[at..]);
+        decl.statement = unnamed(&of_text(&text[at..]));
+        let mut known = parameters(&text[..at]);
+        known.push("result".to_string());
         decl.heads = vec![Head {
-            known: parameters(&text[..at]),
+            known,
             ..Head::default()
         }];
         decl.stated = source::numbers(head);
@@ -159,14 +185,14 @@ pub struct Book {
 }
 
 // Close.
-#[no_mangle]
+#[unsafe(no_mangle)]
 pub extern \"C\" fn close<'a>(
     book: Book,
     key: &'a mut [[u8; PAGES]; 4],
 ) -> Reply
-    requires { ⌜ c key ⌝ }
-    ensures { λ r. ⌜ Serves book r
-        key ⌝ }
+    requires { c key.old }
+    ensures said { Serves book result
+        key.new }
 {
     let text = \"(\";
     done(book)
@@ -190,7 +216,7 @@ const N: usize = 2 * PAGES;
         assert_eq!(close.sentence.as_deref(), Some("Close."));
         assert_eq!(close.form, Form::Call { exported: true });
         assert_eq!(close.stated, [16, 17, 18, 19, 20, 21, 22, 23]);
-        assert_eq!(close.heads[0].known, ["book", "key"]);
+        assert_eq!(close.heads[0].known, ["book", "key", "result"]);
         assert!(close.code.contains(&"Reply".to_string()));
         assert_eq!((n.name.as_str(), n.form), ("N", Form::Item));
     }

@@ -2,7 +2,7 @@
 //! public call, final theorem or file is added here.
 
 /// The crate whose exported functions other languages call, all of them.
-pub const EXPORTS: &str = "counter";
+pub const EXPORTS: &str = "counter_c";
 
 /// The calls of Rattle callers: a crate, and its functions.
 pub const CALLS: &[(&str, &[&str])] = &[
@@ -21,31 +21,31 @@ pub const CALLS: &[(&str, &[&str])] = &[
 #[rustfmt::skip]
 pub const THEOREMS: &[(&str, &[&str])] = &[
     // demand 1
-    ("demands", &["answers", "in-table", "refused", "alone", "all-zero", "accepted"]),
+    ("demands", &["answers", "in_table", "refused", "alone", "all-zero", "accepted"]),
     // demand 2
-    ("demands", &["wrote", "read-back", "damaged", "only-then", "marker-told"]),
+    ("demands", &["wrote", "read_back", "damaged", "only_then", "marker-told"]),
     // how many pels are revisited (request E11)
-    ("band", &["at-most-shifts", "at-most-pels"]),
+    ("band", &["at_most_shifts", "at_most_pels"]),
     ("demands", &["revisits"]),
     // whichever engine writes (request E8)
     ("writer", &["either-engine"]),
     // demand 3
-    ("demands", &["any-order", "as-run", "any-history"]),
+    ("demands", &["any_order", "as-run", "any-history"]),
     // document 01: pels; the fresh table; the table of source document 000
     ("template", &["pel-bit"]),
     ("estimate", &["fresh-entry", "agrees"]),
     // its bytes: at most 8F after an FF; their number; 12 + S bits, and what follows; the length law; the end told
-    ("band", &["code-lawful", "code-value", "code-covers", "code-length", "code-one", "code-last"]),
+    ("band", &["code-lawful", "code-value", "code-covers", "code-length", "code_one", "code-last"]),
     ("unique", &["end-told"]),
     // its refusals: their order; the lent output after each; what no code has (request E4); a lawful desk stays
     // lawful; what other keys and looks see
-    ("desk", &["in-order", "each-lent"]),
+    ("desk", &["in_order_lem", "each_lent"]),
     ("marker", &["code-unmarked", "marked-damaged"]),
     ("kept", &["empty-lawful", "call-lawful", "call-keeps", "call-leaves", "band-tables", "band-looks"]),
     // P1 to P11
     ("band", &["worked"]),
     // nothing more can vary
-    ("unique", &["one-reader"]),
+    ("unique", &["one_reader"]),
     ("demands", &["certain", "certain-parts"]),
     ("counter", &["desk-bytes"]),
 ];
@@ -70,7 +70,7 @@ pub const SECTIONS: &[(&str, &[&str])] = &[
     ]),
     ("Bands worked by hand", &["band/Worked"]),
     ("How much each public call must say", &[
-        "parts", "desk/Asked", "counter/src", "counter", "opening", "closing", "tables", "writing", "reading", "store/src",
+        "parts", "desk/Asked", "counter_c/src", "counter", "opening", "closing", "tables", "writing", "reading", "store/src",
         "writer/src", "writer/Wrote", "writer",
         "unique/Search", "unique/BandOfCode", "unique", "demands/Certain",
     ]),

@@ -75,12 +75,12 @@ mod tests {
     #[test]
     fn brackets_and_the_stop_of_a_lambda_stand_alone() {
         assert_eq!(
-            of_text("f (λ x y. x .low) m.name []").join("|"),
-            "f|(|λ|x|y|.|x|.low|)|m.name|[]"
+            of_text("f (λ x y. x.low) (g x).high m.name []").join("|"),
+            "f|(|λ|x|y|.|x.low|)|(|g|x|)|.high|m.name|[]"
         );
         assert_eq!(
-            of_text("use A·b.C.{d, _∷_}").join("|"),
-            "use|A·b.C|.|{|d|,|_∷_|}"
+            of_text("use A.b.C.{d, ◌∷◌}").join("|"),
+            "use|A.b.C|.|{|d|,|◌∷◌|}"
         );
         assert_eq!(of_text("(λ (k : ℕ). k)").join("|"), "(|λ|(|k|:|ℕ|)|.|k|)");
         assert_eq!(of_text("[ true ↦ a ]").join("|"), "[|true|↦|a|]");

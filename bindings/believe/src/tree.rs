@@ -57,11 +57,9 @@ fn below(folder: &Path, ending: &str) -> Vec<PathBuf> {
     found
 }
 
-/// A module's crate, its folder and the rest: `Rattle·desk·specs.specs.Parts`
-/// in its own crate and `Rattle·desk.specs.Parts` in others.
+/// A module's crate, and its folder with the rest: `Rattle.desk.specs.Parts`.
 fn own_module(module: &str) -> Option<(&str, &str)> {
-    let (owner, rest) = module.strip_prefix("Rattle·")?.split_once('.')?;
-    Some((owner.split('·').next()?, rest))
+    module.strip_prefix("Rattle.")?.split_once('.')
 }
 
 impl File {
@@ -153,10 +151,12 @@ impl Tree {
         Some(Id { file, decl })
     }
 
-    /// What an own module's name stands for. The modules that are made of a
-    /// struct or an enum (`declared.Key`, `Parts.Laws`) stand for that.
+    /// What a module's name stands for. A crate that is none of the tree's is
+    /// the library's. The modules that are made of a struct or an enum
+    /// (`declared.Key`, `Parts.Laws`) stand for that.
     fn in_module(&self, module: &str, name: &str) -> Result<Meaning, String> {
-        let Some((owner, rest)) = own_module(module) else {
+        let is_own = |owner: &str| self.files.iter().any(|file| file.owner == owner);
+        let Some((owner, rest)) = own_module(module).filter(|(owner, _)| is_own(owner)) else {
             let (module, name) = (module.to_string(), name.to_string());
             return Ok(Meaning::Library { module, name });
         };
@@ -172,23 +172,28 @@ impl Tree {
         found.map(Meaning::Declared).ok_or_else(missing)
     }
 
-    /// What a name stands for in a file, at a line.
+    /// What a name stands for in a file, at a line. `m.a` is a name of the
+    /// module that is known as `m`, and where there is none a field of `m`.
     pub fn meaning(&self, file: usize, name: &str, line: usize) -> Result<Meaning, String> {
         let uses = &self.files[file].uses;
         if let Some(id) = self.in_file(file, name, line) {
             return Ok(Meaning::Declared(id));
         }
-        let operator = format!("_{name}_");
+        let operator = format!("◌{name}◌");
         let used = uses.names.get(name).or_else(|| uses.names.get(&operator));
         if let Some((module, name)) = used {
             return self.in_module(module, name);
         }
+        let Some((first, rest)) = name.split_once('.').filter(|(first, _)| !first.is_empty()) else {
+            return Ok(Meaning::Language);
+        };
+        if let Some(module) = uses.modules.get(first) {
+            let name = rest.split('.').next().unwrap_or(rest);
+            return self.in_module(module, name);
+        }
         match name.rsplit_once('.') {
-            Some((module, name)) if !module.is_empty() => {
-                let module = uses.modules.get(module).map_or(module, String::as_str);
-                self.in_module(module, name)
-            }
-            _ => Ok(Meaning::Language),
+            Some((module, name)) if first == "Rattle" => self.in_module(module, name),
+            _ => self.meaning(file, first, line),
         }
     }
 
@@ -209,9 +214,8 @@ mod tests {
 
     #[test]
     fn names_are_found_by_import_alias_and_path() {
-        let there = File::of("crates/b/proofs/M.antt", "a : T\na = x\n\n_⊛_ : T\n");
-        let uses =
-            "use Rattle·b.proofs.M.{a as c, _⊛_}\nuse Rattle·b.proofs.M as m\nuse lib.L.{_≡_}\n";
+        let there = File::of("crates/b/proofs/M.antt", "a : T\na = x\n\n◌⊛◌ : T\n");
+        let uses = "use Rattle.b.proofs.M.{a as c, ◌⊛◌}\nuse Rattle.b.proofs.M as m\nuse Rattle.std.specs.L.{◌≡◌}\n";
         let here = File::of("crates/d/specs/N.antt", uses);
         let tree = Tree {
             files: vec![there, here],
@@ -220,13 +224,15 @@ mod tests {
         let a = Ok(Meaning::Declared(Id { file: 0, decl: 0 }));
         assert_eq!(meaning("c"), a);
         assert_eq!(meaning("m.a"), a);
-        assert_eq!(meaning("Rattle·b·proofs.proofs.M.a"), a);
+        assert_eq!(meaning("m.a.low"), a);
+        assert_eq!(meaning("c.low.high"), a);
+        assert_eq!(meaning("Rattle.b.proofs.M.a"), a);
         assert_eq!(meaning("⊛"), Ok(Meaning::Declared(Id { file: 0, decl: 1 })));
         assert_eq!(meaning("a"), Ok(Meaning::Language));
         assert!(meaning("m.z").is_err());
         let library = Meaning::Library {
-            module: "lib.L".into(),
-            name: "_≡_".into(),
+            module: "Rattle.std.specs.L".into(),
+            name: "◌≡◌".into(),
         };
         assert_eq!(meaning("≡"), Ok(library));
     }
@@ -234,7 +240,7 @@ mod tests {
     #[test]
     fn modules_that_are_made_of_a_struct_stand_for_it() {
         let code = File::of("crates/b/src/lib.rt", "pub enum Found {\n    At(u64),\n}\n");
-        let uses = "use Rattle·b·specs.specs.declared.Found.{Found}\nuse Rattle·b.specs.declared.Found.the-variants as way\nuse Rattle·b.proofs.Found.Laws as F\n";
+        let uses = "use Rattle.b.specs.declared.Found.{Found}\nuse Rattle.b.specs.declared.Found.TheVariants as way\nuse Rattle.b.proofs.Found.Laws as F\n";
         let here = File::of("crates/b/specs/deep/N.antt", uses);
         assert_eq!((here.owner.as_str(), here.place.as_str()), ("b", "deep.N"));
         let tree = Tree {

@@ -59,10 +59,10 @@ mod tests {
 
     #[test]
     fn a_folded_import_is_one_import() {
-        let folded = uses("use A·b.specs.M.{\n    a,\n    b as c,\n    _∷_\n}");
-        assert_eq!(folded, uses("use A·b.specs.M.{a, b as c, _∷_};"));
-        assert_eq!(folded.names["a"], ("A·b.specs.M".into(), "a".into()));
-        assert_eq!(folded.names["c"], ("A·b.specs.M".into(), "b".into()));
+        let folded = uses("use A.b.specs.M.{\n    a,\n    b as c,\n    ◌∷◌\n}");
+        assert_eq!(folded, uses("use A.b.specs.M.{a, b as c, ◌∷◌};"));
+        assert_eq!(folded.names["a"], ("A.b.specs.M".into(), "a".into()));
+        assert_eq!(folded.names["c"], ("A.b.specs.M".into(), "b".into()));
         assert_eq!(folded.names.len(), 3);
     }
 

@@ -116,14 +116,14 @@ unused : ℕ
 unused = helper
 ";
     const SPECS: &str = "\
-use lib.L.{ℕ, _≡_}
-use Rattle·b.specs.Base.{
+use lib.L.{ℕ, ◌≡◌}
+use Rattle.b.specs.Base.{
     big,
     helper as one,
     unused,
     absent
 }
-use Rattle·b.specs.declared.Way.the-variants as way
+use Rattle.b.specs.declared.Way.TheVariants as way
 
 abbrev sized : Kind → ℕ
 sized big = one

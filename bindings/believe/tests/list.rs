@@ -1,9 +1,12 @@
 //! docs/BELIEVE.md is what the tool prints, every definition on it has a
 //! sentence, and README says how many lines it has.
 
+use siftpebble_believe::decl::{Decl, Form};
 use siftpebble_believe::list::{List, Part};
-use siftpebble_believe::table::{CALLS, THEOREMS};
+use siftpebble_believe::table::{CALLS, EXPORTS, THEOREMS};
+use siftpebble_believe::tree::Tree;
 use siftpebble_believe::{page, root};
+use std::collections::BTreeMap;
 use std::fs;
 
 fn read(path: &str) -> String {
@@ -66,6 +69,28 @@ fn roots_are_promised() {
     for name in cited {
         assert!(promises.contains(&name), "{name} in docs/PROMISES.md");
     }
+}
+
+/// A call's name, with its parameters, what it answers and its clauses.
+fn said(decl: &Decl) -> (String, String) {
+    let plain = |word: &&String| !["unsafe", "no_mangle", "extern", "C"].contains(&word.as_str());
+    let head: Vec<&String> = decl.code.iter().filter(plain).collect();
+    (decl.name.clone(), format!("{head:?} {:?}", decl.statement))
+}
+
+/// Whoever reads a call that is exported has read that of Rattle callers too:
+/// it has the same name, parameters and clauses.
+#[test]
+fn exported_calls_say_what_rattle_calls_say() {
+    let tree = Tree::read(&root()).unwrap_or_else(|fault| panic!("{fault}"));
+    let calls = |owner: &str, exported: bool| -> BTreeMap<String, String> {
+        let is = |decl: &Decl| decl.form == Form::Call { exported };
+        let found = tree.of_crate(owner, |_, decl| is(decl));
+        found.into_iter().map(|id| said(tree.decl(id))).collect()
+    };
+    let exported = calls(EXPORTS, true);
+    assert_eq!(exported, calls("counter", false));
+    assert!(exported.len() == 10 && calls("counter", true).is_empty());
 }
 
 /// The list is what it is meant to be: it holds what every call rests on, and

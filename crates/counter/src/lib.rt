@@ -1,4 +1,4 @@
-// The calls over a lent desk. Other languages see these calls and no others.
+// The calls over a lent desk. Other languages see these calls, as `counter_c` exports them, and no others.
 #![tactic(auto)]
 
 ghost use Rattle.std.specs.Prelude.{◌≡◌, []};
@@ -18,16 +18,14 @@ use parts::Parts;
 const DESK_BYTES: usize = PAGES * (32 + CONTEXTS + ROW) + PLACES * (24 + CONTEXTS);
 
 // How many bytes a desk has.
-#[unsafe(no_mangle)]
-pub extern "C" fn siftpebble_desk_bytes() -> usize
+pub fn siftpebble_desk_bytes() -> usize
     ensures { result ≡ desk_bytes }
 {
     DESK_BYTES
 }
 
 // An empty desk: no page is open, no class has a table.
-#[unsafe(no_mangle)]
-pub extern "C" fn siftpebble_empty(desk: &mut Parts)
+pub fn siftpebble_empty(desk: &mut Parts)
     ensures { (desk_of desk.new ≡ empty_desk) × Whole desk.new }
 {
     let book = asked_tables::emptied(&mut desk.working, &mut desk.rows, &mut desk.learned);
@@ -35,13 +33,7 @@ pub extern "C" fn siftpebble_empty(desk: &mut Parts)
 }
 
 // Open, to write: working table = the class's learned table, or the fresh one; last row white.
-#[unsafe(no_mangle)]
-pub extern "C" fn siftpebble_open_write(
-    desk: &mut Parts,
-    school: u64,
-    class: u64,
-    width: u64,
-) -> Answer
+pub fn siftpebble_open_write(desk: &mut Parts, school: u64, class: u64, width: u64) -> Answer
     ensures { Serves desk.old (opens (to_write school class width)) result desk.new [] }
 {
     let r = asked_pages::opened_to_write(
@@ -58,13 +50,7 @@ pub extern "C" fn siftpebble_open_write(
 }
 
 // Open, to read: working table = the class's learned table, or the fresh one; last row white.
-#[unsafe(no_mangle)]
-pub extern "C" fn siftpebble_open_read(
-    desk: &mut Parts,
-    school: u64,
-    class: u64,
-    width: u64,
-) -> Answer
+pub fn siftpebble_open_read(desk: &mut Parts, school: u64, class: u64, width: u64) -> Answer
     ensures { Serves desk.old (opens (to_read school class width)) result desk.new [] }
 {
     let r = asked_pages::opened_to_read(
@@ -81,8 +67,7 @@ pub extern "C" fn siftpebble_open_read(
 }
 
 // Close: the working table becomes the class's learned table. The page is gone.
-#[unsafe(no_mangle)]
-pub extern "C" fn siftpebble_close(desk: &mut Parts, school: u64, class: u64) -> Answer
+pub fn siftpebble_close(desk: &mut Parts, school: u64, class: u64) -> Answer
     ensures { Serves desk.old (closes (as_key school class)) result desk.new [] }
 {
     let r = asked_pages::closed(
@@ -98,8 +83,7 @@ pub extern "C" fn siftpebble_close(desk: &mut Parts, school: u64, class: u64) ->
 }
 
 // Abandon: the page is gone, the learned table is as before; a place that was only reserved is free.
-#[unsafe(no_mangle)]
-pub extern "C" fn siftpebble_abandon(desk: &mut Parts, school: u64, class: u64) -> Answer
+pub fn siftpebble_abandon(desk: &mut Parts, school: u64, class: u64) -> Answer
     ensures { Serves desk.old (abandons (as_key school class)) result desk.new [] }
 {
     let r = asked_pages::abandoned(
@@ -115,8 +99,7 @@ pub extern "C" fn siftpebble_abandon(desk: &mut Parts, school: u64, class: u64) 
 }
 
 // Drop: the class's learned table is forgotten.
-#[unsafe(no_mangle)]
-pub extern "C" fn siftpebble_drop(desk: &mut Parts, school: u64, class: u64) -> Answer
+pub fn siftpebble_drop(desk: &mut Parts, school: u64, class: u64) -> Answer
     ensures { Serves desk.old (drops (as_key school class)) result desk.new [] }
 {
     let r = asked_tables::forgotten(
@@ -132,13 +115,7 @@ pub extern "C" fn siftpebble_drop(desk: &mut Parts, school: u64, class: u64) -> 
 }
 
 // Look: the 128 bytes of the learned table in the front of the buffer, the rest kept.
-#[unsafe(no_mangle)]
-pub extern "C" fn siftpebble_look(
-    desk: &mut Parts,
-    school: u64,
-    class: u64,
-    out: &mut [u8],
-) -> Answer
+pub fn siftpebble_look(desk: &mut Parts, school: u64, class: u64, out: &mut [u8]) -> Answer
     ensures { Serves desk.old (looks (as_key school class) out.old) result desk.new
         out.new }
 {
@@ -156,8 +133,7 @@ pub extern "C" fn siftpebble_look(
 }
 
 // Write band: the code in the front of the buffer, the rest kept; its length, S and the pels revisited.
-#[unsafe(no_mangle)]
-pub extern "C" fn siftpebble_write(
+pub fn siftpebble_write(
     desk: &mut Parts,
     school: u64,
     class: u64,
@@ -185,8 +161,7 @@ pub extern "C" fn siftpebble_write(
 }
 
 // Read band: the rows in the front of the buffer, the rest kept; their bytes, S and the pels revisited.
-#[unsafe(no_mangle)]
-pub extern "C" fn siftpebble_read(
+pub fn siftpebble_read(
     desk: &mut Parts,
     school: u64,
     class: u64,
