@@ -1,9 +1,8 @@
 -- Demand 1 of the calls: what it is to be refused, by a number of the table. Assumes nothing.
-use Rattle.std.specs.Prelude.{◌≡◌, Bool, false, ◌||◌, List, [], ◌∷◌, ℕ, eqb, length}
+use Rattle.std.specs.Prelude.{◌≡◌, Bool, false, ◌||◌, List, [], ◌∷◌, ℕ, eqb}
 use Rattle.desk.specs.Desk.{Desk, Outcome}
 use Rattle.desk.specs.Refusals.{lent_after}
 use Rattle.desk.specs.Calls.{Call, lent_to}
-use Rattle.desk.specs.Allowed.{lent}
 
 -- ---- a number of the table
 -- the number n stands in a list

@@ -1,5 +1,4 @@
 -- The call's own contract, of what the numbers ask. Assumes nothing.
-use borrow.Author.Rules.{rules}
 use Rattle.asked_bands.proofs.read.Goals as goal
 
 pub read-requires : goal.read-requires

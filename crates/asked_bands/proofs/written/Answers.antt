@@ -1,5 +1,4 @@
 -- The call's own contract, of what the numbers ask. Assumes nothing.
-use borrow.Author.Rules.{rules}
 use Rattle.asked_bands.proofs.written.Goals as goal
 
 pub write-requires : goal.write-requires

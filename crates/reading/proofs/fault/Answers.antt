@@ -1,7 +1,6 @@
 -- Whether there is a marker decides the number. Assumes nothing.
 use mathlib.Core.Path.{sym, ap, ◌∙◌}
 use Rattle.desk.specs.Refusals.{damage}
-use borrow.Author.Rules.{rules}
 use Rattle.reading.proofs.fault.Goals as goal
 
 pub returns-then-marked : goal.returns-then-marked

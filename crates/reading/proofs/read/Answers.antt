@@ -27,7 +27,6 @@ use Rattle.reader.specs.declared.Read.{Read}
 use Rattle.reading.proofs.ReadAnswers.{sizes, damage-is, read_number, read-room, read-full}
 use Rattle.reading.proofs.ReadAnswers.{read-damaged, damaged-out}
 use Rattle.reading.proofs.ReadAnswers.{band, read-end, read-gave, read-lent, read-effect}
-use borrow.Author.Rules.{rules}
 use Prim.Native.Nat.{ℕ}
 use Rattle.parts.specs.Parts.{Whole}
 use Rattle.reading.proofs.read.Goals as goal
