@@ -7,8 +7,27 @@ use std::collections::BTreeSet;
 
 /// Words of the language that name nothing.
 const WORDS: [&str; 21] = [
-    ":", "=", "→", "←", "λ", ".", ",", ";", "|", "↦", "in", "let", "record", "where", "_", "@",
-    "requires", "requires*", "ensures", "ensures*", "∀",
+    ":",
+    "=",
+    "→",
+    "←",
+    "λ",
+    ".",
+    ",",
+    ";",
+    "|",
+    "↦",
+    "in",
+    "let",
+    "record",
+    "where",
+    "_",
+    "@",
+    "requires",
+    "requires*",
+    "ensures",
+    "ensures*",
+    "∀",
 ];
 
 /// Tells constructors from variables in a pattern.
@@ -166,7 +185,9 @@ impl Reading<'_> {
         let field = word.starts_with('.');
         let is_known = |name: &str| self.known.iter().any(|own| own == name);
         // `p.low` names `p`, and a field of it
-        let of_known = word.split_once('.').is_some_and(|(first, _)| is_known(first));
+        let of_known = word
+            .split_once('.')
+            .is_some_and(|(first, _)| is_known(first));
         if is_plain(word) && !label && !number && !field && !is_known(word) && !of_known {
             self.free.insert(word.clone());
         }

@@ -184,7 +184,8 @@ impl Tree {
         if let Some((module, name)) = used {
             return self.in_module(module, name);
         }
-        let Some((first, rest)) = name.split_once('.').filter(|(first, _)| !first.is_empty()) else {
+        let Some((first, rest)) = name.split_once('.').filter(|(first, _)| !first.is_empty())
+        else {
             return Ok(Meaning::Language);
         };
         if let Some(module) = uses.modules.get(first) {
