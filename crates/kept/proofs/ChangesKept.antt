@@ -17,7 +17,7 @@ use Rattle.desk.specs.Places.{unused_page, free_place, is_page_of, is_place_of, 
 use Rattle.desk.specs.Places.{place_found, table_found, free_page_found, free_place_found, is_found}
 use Rattle.kept.proofs.Lists.{pick, found-given}
 use Rattle.ground.proofs.Bools.{no_way}
-use Rattle.kept.proofs.View.{K, learned_in, view_page, view_place, shelves, place_read, pages-first, places-first}
+use Rattle.kept.proofs.View.{K, key_laws, learned_in, view_page, view_place, shelves, place_read, pages-first, places-first}
 use Rattle.kept.proofs.View.{pages-free, places-free, table-first}
 use Rattle.kept.proofs.Sound.{Sound}
 use Rattle.kept.proofs.Cells.{cell_of, table-found, page-free-found, place-free-found}
@@ -56,7 +56,7 @@ module _ (d : Desk) (s : Sound d) (k : Key) where
 
   pub page-kept : (o : Option Page) → x.page ≡ o → map view_page d.pages ≡ update K Page k o Pages
   unfolding shelves
-  page-kept o e = sym (update_same K Page k o Pages e)
+  page-kept o e = sym (update_same K Page key_laws k o Pages e)
 
   -- the row of places
   pub place-freed : given (place_of x.learned x.page) ≡ true
@@ -81,7 +81,7 @@ module _ (d : Desk) (s : Sound d) (k : Key) where
 
   pub place_kept : (o : Option (Option Table)) → place_of x.learned x.page ≡ o → map view_place d.places
       ≡ update K (Option Table) k o Places
-  place_kept o e = sym (update_same K (Option Table) k o Places (fits-k ∙ e))
+  place_kept o e = sym (update_same K (Option Table) key_laws k o Places (fits-k ∙ e))
 
   pub table-freed : is_found (table_found d k) ≡ true → map view_place (at_first (is_table_of k) free_place d.places)
       ≡ update K (Option Table) k none Places

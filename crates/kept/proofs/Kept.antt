@@ -26,7 +26,7 @@ use Rattle.desk.specs.Effects.{Change, stays, Effect, effect, afterwards}
 use Rattle.desk.specs.Changes.{changed}
 use Rattle.desk.specs.Allowed.{done, unless, number, effect_on, outcome, lent}
 use Rattle.desk.proofs.KindLaws.{KindLaw, kind-law}
-use Rattle.kept.proofs.View.{K, shelves, Shelf}
+use Rattle.kept.proofs.View.{K, key_laws, shelves, Shelf}
 use Rattle.kept.proofs.Sound.{Sound, lawful-sound, sound-lawful}
 use Rattle.kept.proofs.Cells.{cell_of, page-is, learned-is}
 use Rattle.kept.proofs.ChangesKept.{slot-room, place-room}
@@ -148,7 +148,7 @@ module _ (R : Reader) (d : Desk) (h : lawful d ≡ true) (c : Call) where
           k _ s c' in
           let q : cell_of (changed d k e.page e.learned) k ≡ cell_after (cell_of d k) e.page e.learned
           = ap (λ (z : Shelf). cell_at K Table Page z k) c'.shelved
-          ∙ sym (own-cell K Table Page (shelves d) s.fitting k (cell_after (cell_of d k) e.page e.learned)
+          ∙ sym (own-cell K Table Page key_laws (shelves d) s.fitting k (cell_after (cell_of d k) e.page e.learned)
           c'.page-room
           c'.place-room) in (
             page-is (changed d k e.page e.learned) s' k ∙ ap (λ (x : Cell Table Page). x.page) q

@@ -19,7 +19,7 @@ use Rattle.desk.specs.Lawful.{all, lawful_key, low_indexes, lawful_page, lawful_
 use Rattle.desk.specs.Effects.{Change, stays, gone, becomes, afterwards}
 use Rattle.desk.specs.Changes.{learned_place, reserved_place, set_at, or_free, pages_after, places_after, changed}
 use Rattle.kept.proofs.Lists.{set_found, all_first}
-use Rattle.kept.proofs.View.{K, view_page, view_place, Shelf, shelves}
+use Rattle.kept.proofs.View.{K, key_laws, view_page, view_place, Shelf, shelves}
 use Rattle.kept.proofs.Sound.{Sound}
 use Rattle.kept.proofs.Cells.{cell_of, page-found, table-found}
 use Rattle.kept.proofs.ChangesKept.{Places, page-gone, page-changed, page-taken, page-kept, place-freed}
@@ -40,7 +40,7 @@ stored-sound d d' k y s c =
       pages-lawful = c.pages-lawful;
       places-lawful = c.places-lawful;
       fitting = subst (λ (z : Shelf). Fitting K Table Page z) (sym c.shelved)
-          (fitting-store K Table Page (shelves d) s.fitting k y
+          (fitting-store K Table Page key_laws (shelves d) s.fitting k y
           c.page-room c.place-room);
     }
 
@@ -49,7 +49,7 @@ pub stored-others : (d d' : Desk) (k : Key) (y : Cell Table Page) → Sound d �
     → same_key k j ≡ false → cell_of d' j
     ≡ cell_of d j
 stored-others d d' k y s c j n =
-    ap (λ (z : Shelf). cell_at K Table Page z j) c.shelved ∙ other-cell K Table Page (shelves d) s.fitting k y
+    ap (λ (z : Shelf). cell_at K Table Page z j) c.shelved ∙ other-cell K Table Page key_laws (shelves d) s.fitting k y
     c.page-room c.place-room j n
 
 -- ---- a change, and the cell that it leaves

@@ -8,7 +8,7 @@ use lib.Dec.{eqb}
 use borrow.Author.Tests.{eqb-true}
 use Rattle.ground.specs.Options.{given}
 use Rattle.ground.proofs.Options.{mapped}
-use Rattle.turns.specs.Service.{Keys}
+use Rattle.turns.specs.Service.{Keys, KeyLaws}
 use Rattle.turns.proofs.Slots.{Named, named, find, free, Lone}
 use Rattle.turns.proofs.SlotRows.{at_first, map_first, has_name, is_free}
 use Rattle.turns.proofs.Shelves.{join, Shelves}
@@ -22,7 +22,11 @@ use Rattle.ground.proofs.Bools.{no_way}
 
 -- ---- keys: the school and the class
 abbrev pub K : Keys
-K = record { Key = Key; same = same_key; same_self = key-self; same_only = key-only }
+K = record { Key = Key; same = same_key }
+
+-- a key is the same as itself, and the same as no other
+abbrev pub key_laws : KeyLaws K.Key K.same
+key_laws = record { same_self = key-self; same_only = key-only }
 
 -- ---- a page is a slot with the page itself; a place holds its learned table, or is only reserved
 abbrev pub view_page_by : Bool → Page → Option (Named K Page)

@@ -21,6 +21,7 @@ use Rattle.kept.proofs.Sound.{lawful-sound}
 use Rattle.kept.proofs.Cells.{cell_of, page-is, learned-is}
 use Rattle.kept.proofs.Kept.{empty-lawful}
 use Rattle.serial.specs.Run.{calling, run, after}
+use Rattle.serial.proofs.CallingKeys.{calling_keys}
 use Rattle.serial.proofs.Office.{bureau, bureau-lawful}
 use Rattle.serial.proofs.KeysBeside.{SameRun, same-run, empty-shelves, run-done}
 use Rattle.serial.specs.Demand3.{left, served_calls, Demand3}
@@ -42,10 +43,10 @@ module _ (R : Reader) where
         none_open = λ k. page-is (after R empty_desk (served_calls R cs))
             (lawful-sound (after R empty_desk (served_calls R cs)) b.stays) k ∙ ap (λ
             (x : Cell Table Page). x.page) (cells k);
-        order = in_order_lem calling (run R empty_desk cs);
-        of-key = λ k. one_key calling k (run R empty_desk cs);
-        own_order = λ k. own_order calling k (run R empty_desk cs);
-        nothing_lost = λ k t. nothing_lost calling k t (run R empty_desk cs);
+        order = in_order_lem calling calling_keys (run R empty_desk cs);
+        of-key = λ k. one_key calling calling_keys k (run R empty_desk cs);
+        own_order = λ k. own_order calling calling_keys k (run R empty_desk cs);
+        nothing_lost = λ k t. nothing_lost calling calling_keys k t (run R empty_desk cs);
       }
     where
       a : SameRun R empty_desk cs

@@ -6,7 +6,6 @@ use Rattle.desk.specs.declared.Key.{Key}
 use Rattle.desk.specs.Desk.{Desk, Outcome}
 use Rattle.desk.specs.declared.Answer.{Answer}
 use Rattle.desk.specs.Places.{same_key}
-use Rattle.desk.proofs.OpenPages.{key-self, key-only}
 use Rattle.desk.specs.Calls.{Call, key_of, kind_of}
 use Rattle.desk.specs.Allowed.{outcome, lent}
 
@@ -35,8 +34,6 @@ abbrev pub calling : Service
 calling = record {
   Key = Key;
   same = same_key;
-  same_self = key-self;
-  same_only = key-only;
   Call = Call;
   Output = Output;
   key = key_of;

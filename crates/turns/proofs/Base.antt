@@ -10,7 +10,7 @@ use lib.ListN.{length}
 use borrow.Author.Tests.{leb-false, lt-leb}
 use Rattle.ground.specs.Options.{given}
 use Rattle.ground.proofs.Bools.{no_way}
-use Rattle.turns.specs.Service.{Keys, Service, put, Entry, calls}
+use Rattle.turns.specs.Service.{Keys, KeyLaws, Service, put, Entry, calls}
 use Rattle.turns.specs.Base.{one}
 use Rattle.turns.proofs.CellDesk.{placed}
 
@@ -58,27 +58,7 @@ room-below false true p a h le = let q : a < p = leb-false p a h in omega arith
 room-below false false p a h le = omega arith
 
 module _ (K : Keys) where
-  open K use {Key, same, same_self, same_only}
-
-  pub put_self : {A : Type 0} (k : Key) (a : A) (f : Key → A) → put K k a f k ≡ a
-  put_self k a f = rw (same_self k)
-
-  -- what holds of k's new value and of the others' old ones holds of all
-  pub put-each : {A : Type 0} (P : Key → A → Type 0) (k : Key) (a : A) (f : Key → A) → P k a
-      → ((j : Key) → same k j ≡ false → P j (f j)) → (j : Key) → P j (put K k a f j)
-  put-each {A} P k a f h r j = go (same k j) refl
-    where
-      go : (v : Bool) → same k j ≡ v → P j (cond v a (f j))
-      go true e = subst (λ (i : Key). P i a) (same_only k j e) h
-      go false e = r j e
-
-  pub put_both : {A B : Type 0} (P : Key → A → B → Type 0) (k : Key) (a : A) (f : Key → A) (b : B) (g : Key → B)
-      → P k a b → ((j : Key) → P j (f j) (g j)) → (j : Key) → P j (put K k a f j) (put K k b g j)
-  put_both P k a f b g h r j = go (same k j) refl
-    where
-      go : (v : Bool) → same k j ≡ v → P j (cond v a (f j)) (cond v b (g j))
-      go true e = subst (λ (i : Key). P i a b) (same_only k j e) h
-      go false e = r j
+  open K use {Key, same}
 
   pub put-put : {A : Type 0} (k : Key) (a b : A) (f : Key → A) → put K k b (put K k a f) ≡ put K k b f
   put-put {A} k a b f = fun_ext (λ j. go j (same k j))
@@ -115,24 +95,6 @@ module _ (K : Keys) where
   pub has_one : (k : Key) (js : List Key) → has k js ≡ true → 1 ≤ length js
   has_one k js h = let e : length js ≡ suc (length (without k js)) = has-length k js h in omega arith
 
-  has-without : (k j : Key) (js : List Key) → same k j ≡ false → has j js ≡ true → has j (without k js) ≡ true
-  unfolding has without
-  has-without k j [] n h = h
-  has-without k j (i ∷ is) n h = go (same i k) refl (has-without k j is n)
-    where
-      go : (v : Bool) → same i k ≡ v → (has j is ≡ true → has j (without k is) ≡ true)
-          → has j (cond v is (i ∷ without k is)) ≡ true
-      go true e r = mine (same i j) refl h
-        where
-          mine : (u : Bool) → same i j ≡ u → cond u true (has j is) ≡ true → has j is ≡ true
-          mine true f h' = no_way (sym f ∙ ap (λ (z : Key). same z j) (same_only i k e) ∙ n)
-          mine false f h' = h'
-      go false e r = other (same i j) h
-        where
-          other : (u : Bool) → cond u true (has j is) ≡ true → cond u true (has j (without k is)) ≡ true
-          other true h' = refl
-          other false h' = r h'
-
   pub relist-length : (k : Key) (a b : Bool) (js : List Key) → (a ≡ true → has k js ≡ true) → length (relist k a b js)
       ≡ length js + one b - one a
   unfolding relist
@@ -142,21 +104,63 @@ module _ (K : Keys) where
   relist-length k true true js h = omega arith
   relist-length k false false js h = omega arith
 
-  pub relist-self : (k : Key) (a b : Bool) (js : List Key) → (a ≡ true → has k js ≡ true) → b ≡ true
-      → has k (relist k a b js) ≡ true
-  unfolding relist has
-  relist-self k false true js h y = rw (same_self k)
-  relist-self k true false js h y = no_way (sym y)
-  relist-self k true true js h y = h refl
-  relist-self k false false js h y = no_way (sym y)
+  -- where the test of names has its laws
+  module _ (L : KeyLaws Key same) where
+    open L use {same_self, same_only}
 
-  pub relist-other : (k j : Key) (a b : Bool) (js : List Key) → same k j ≡ false → has j js ≡ true
-      → has j (relist k a b js) ≡ true
-  unfolding relist has
-  relist-other k j false true js n h = rw (n, h)
-  relist-other k j true false js n h = has-without k j js n h
-  relist-other k j true true js n h = h
-  relist-other k j false false js n h = h
+    pub put_self : {A : Type 0} (k : Key) (a : A) (f : Key → A) → put K k a f k ≡ a
+    put_self k a f = rw (same_self k)
+
+    -- what holds of k's new value and of the others' old ones holds of all
+    pub put-each : {A : Type 0} (P : Key → A → Type 0) (k : Key) (a : A) (f : Key → A) → P k a
+        → ((j : Key) → same k j ≡ false → P j (f j)) → (j : Key) → P j (put K k a f j)
+    put-each {A} P k a f h r j = go (same k j) refl
+      where
+        go : (v : Bool) → same k j ≡ v → P j (cond v a (f j))
+        go true e = subst (λ (i : Key). P i a) (same_only k j e) h
+        go false e = r j e
+
+    pub put_both : {A B : Type 0} (P : Key → A → B → Type 0) (k : Key) (a : A) (f : Key → A) (b : B) (g : Key → B)
+        → P k a b → ((j : Key) → P j (f j) (g j)) → (j : Key) → P j (put K k a f j) (put K k b g j)
+    put_both P k a f b g h r j = go (same k j) refl
+      where
+        go : (v : Bool) → same k j ≡ v → P j (cond v a (f j)) (cond v b (g j))
+        go true e = subst (λ (i : Key). P i a b) (same_only k j e) h
+        go false e = r j
+
+    has-without : (k j : Key) (js : List Key) → same k j ≡ false → has j js ≡ true → has j (without k js) ≡ true
+    unfolding has without
+    has-without k j [] n h = h
+    has-without k j (i ∷ is) n h = go (same i k) refl (has-without k j is n)
+      where
+        go : (v : Bool) → same i k ≡ v → (has j is ≡ true → has j (without k is) ≡ true)
+            → has j (cond v is (i ∷ without k is)) ≡ true
+        go true e r = mine (same i j) refl h
+          where
+            mine : (u : Bool) → same i j ≡ u → cond u true (has j is) ≡ true → has j is ≡ true
+            mine true f h' = no_way (sym f ∙ ap (λ (z : Key). same z j) (same_only i k e) ∙ n)
+            mine false f h' = h'
+        go false e r = other (same i j) h
+          where
+            other : (u : Bool) → cond u true (has j is) ≡ true → cond u true (has j (without k is)) ≡ true
+            other true h' = refl
+            other false h' = r h'
+
+    pub relist-self : (k : Key) (a b : Bool) (js : List Key) → (a ≡ true → has k js ≡ true) → b ≡ true
+        → has k (relist k a b js) ≡ true
+    unfolding relist has
+    relist-self k false true js h y = rw (same_self k)
+    relist-self k true false js h y = no_way (sym y)
+    relist-self k true true js h y = h refl
+    relist-self k false false js h y = no_way (sym y)
+
+    pub relist-other : (k j : Key) (a b : Bool) (js : List Key) → same k j ≡ false → has j js ≡ true
+        → has j (relist k a b js) ≡ true
+    unfolding relist has
+    relist-other k j false true js n h = rw (n, h)
+    relist-other k j true false js n h = has-without k j js n h
+    relist-other k j true true js n h = h
+    relist-other k j false false js n h = h
 
 module _ (S : Service) where
   pub calls-append : (es fs : List (Entry S)) → calls S (es ++ fs) ≡ calls S es ++ calls S fs

@@ -5,7 +5,7 @@ use Prim.Native.Nat.{ℕ}
 use lib.Dec.{eqb}
 use borrow.Author.Tests.{eqb-true, eq-eqb}
 use Rattle.turns.specs.Service.{Kind, opening, band, closing, abandoning, looking, changing, Mark, accepted}
-use Rattle.turns.specs.Service.{refused, Service, Entry}
+use Rattle.turns.specs.Service.{refused, Service, KeyLaws, Entry}
 use Rattle.turns.specs.Serial.{waits_as, serves_as, serial_from, serial}
 
 -- a key, what is asked of it, and a number that tells the calls apart
@@ -19,13 +19,15 @@ toy =
     record {
       Key = ℕ;
       same = eqb;
-      same_self = λ k. eq-eqb k k refl;
-      same_only = eqb-true;
       Call = Asked;
       Output = ℕ;
       key = λ (a : Asked). a.owner;
       kind = λ (a : Asked). a.kind;
     }
+
+-- equal numbers are the same
+pub toy_keys : KeyLaws toy.Key toy.same
+toy_keys = record { same_self = λ k. eq-eqb k k refl; same_only = eqb-true }
 
 abbrev pub call : ℕ → Mark → Kind → ℕ → Entry toy
 call n m κ k = record { call = record { owner = k; kind = κ; tag = n }; mark = m; output = n }

@@ -7,7 +7,7 @@ use mathlib.Core.Option.{Option, none}
 use Prim.Native.Nat.{◌<◌}
 use Rattle.ground.specs.Options.{given}
 use Rattle.turns.specs.Service.{keys, Entry, calls, Service, Keys}
-use Rattle.turns.proofs.Office.{Cell, accept, Office, cell, service}
+use Rattle.turns.proofs.Office.{Cell, accept, Office, cell, service, laws_of}
 use Rattle.turns.proofs.CellDesk.{has_page, has_place, Desk, store, no_page, no_place, run, after}
 use Rattle.turns.proofs.Base.{placed-page, put_self, calls-append}
 use Rattle.turns.proofs.Steps.{done, run-accepts, after-accepts, store-again, page-open, page-below, place-held}
@@ -71,7 +71,7 @@ module _ (O : Office) where
   }
     where
       at : (s : Desk O) → (store O s (key c) x).cells (key c) ≡ x
-      at s = put_self K (key c) x s.cells
+      at s = put_self K (laws_of O) (key c) x s.cells
 
       there : (s : Desk O) → given ((store O s (key c) x).cells (key c)).page ≡ true
       there s = rw (at s) g

@@ -5,7 +5,7 @@ use mathlib.Core.Bool.{Bool, true}
 use mathlib.Core.Option.{Option}
 use Prim.Native.Nat.{ℕ}
 use native.Mathlib.Omega.{arith}
-use Rattle.turns.specs.Service.{Kind, Service}
+use Rattle.turns.specs.Service.{Kind, Service, KeyLaws}
 
 -- What stands under one key: the learned table, if there is one, and the open page, if there is one.
 pub record Cell (Table Page : Type 0) : Type 0 where
@@ -48,10 +48,12 @@ abbrev pub service : Office → Service
 service O = record {
   Key = O.Key;
   same = O.same;
-  same_self = O.same_self;
-  same_only = O.same_only;
   Call = O.Call;
   Output = O.Output;
   key = O.key;
   kind = O.kind;
 }
+
+-- the laws of its keys
+abbrev pub laws_of : (O : Office) → KeyLaws O.Key O.same
+laws_of O = record { same_self = O.same_self; same_only = O.same_only }

@@ -4,15 +4,16 @@ use mathlib.Core.Path.{◌≡◌, refl, sym, ap, ◌∙◌}
 use mathlib.Core.Bool.{Bool, true, false}
 use mathlib.Core.List.{List, [], ◌∷◌, ◌++◌}
 use Rattle.turns.specs.Service.{Kind, opening, band, closing, abandoning, looking, changing, Mark, accepted}
-use Rattle.turns.specs.Service.{refused, crowded, Service, keys, put, Entry}
+use Rattle.turns.specs.Service.{refused, crowded, Service, KeyLaws, keys, put, Entry}
 use Rattle.turns.specs.Serial.{Waiting, waits_as, serves_as, serial_from, serial}
 use Rattle.turns.specs.Base.{keep}
 use Rattle.turns.proofs.Base.{put-each}
 use Rattle.ground.proofs.Bools.{no_way}
 use Rattle.turns.specs.Order.{stands_as, standing, of_key}
 
-module _ (S : Service) where
-  open S use {Key, same, same_self, same_only, key, kind}
+module _ (S : Service) (L : KeyLaws S.Key S.same) where
+  open S use {Key, same, key, kind}
+  open L use {same_self, same_only}
 
   keep_append : {A : Type 0} (v : Bool) (e : A) (es fs : List A) → keep v e (es ++ fs) ≡ keep v e es ++ fs
   keep_append true e es fs = refl
@@ -47,14 +48,14 @@ module _ (S : Service) where
   waits-quiet refused κ w e p q h = h
   waits-quiet crowded κ w e p q h = h
   waits-quiet accepted opening w e p q h =
-      put-each (keys S) (λ j l. standing S l ≡ []) (key e.call) (e ∷ []) w (rw (p, q)) (λ j n. h j)
-  waits-quiet accepted band w e p q h = put-each (keys S) (λ j l. standing S l ≡ []) (key e.call)
+      put-each (keys S) L (λ j l. standing S l ≡ []) (key e.call) (e ∷ []) w (rw (p, q)) (λ j n. h j)
+  waits-quiet accepted band w e p q h = put-each (keys S) L (λ j l. standing S l ≡ []) (key e.call)
       (w (key e.call) ++ (e ∷ [])) w (standing-append (w (key e.call)) (e ∷ []) ∙ rw (h (key e.call), p, q))
       (λ j n. h j)
   waits-quiet accepted closing w e p q h =
-      put-each (keys S) (λ j l. standing S l ≡ []) (key e.call) [] w refl (λ j n. h j)
+      put-each (keys S) L (λ j l. standing S l ≡ []) (key e.call) [] w refl (λ j n. h j)
   waits-quiet accepted abandoning w e p q h =
-      put-each (keys S) (λ j l. standing S l ≡ []) (key e.call) [] w refl (λ j n. h j)
+      put-each (keys S) L (λ j l. standing S l ≡ []) (key e.call) [] w refl (λ j n. h j)
   waits-quiet accepted looking w e p q h = h
   waits-quiet accepted changing w e p q h = h
 
@@ -105,7 +106,7 @@ module _ (S : Service) where
         → Beside (put (keys S) j l w) (put (keys S) j m u)
     beside-put w u j l m q e h = record {
       own = rw (q, same_self k) e;
-      others = λ i n. put-each (keys S) (λ i l. same i k ≡ false → of_key S k l ≡ []) j l w
+      others = λ i n. put-each (keys S) L (λ i l. same i k ≡ false → of_key S k l ≡ []) j l w
           (λ n. no_way (sym (same_self k) ∙ ap (λ (z : Key). same z k) (sym q) ∙ n)) (λ i f. h.others i) i n;
     }
 
@@ -140,7 +141,7 @@ module _ (S : Service) where
         → Beside w u → Beside (put (keys S) j l w) u
     beside-other w u j l q e h = record {
       own = rw q h.own;
-      others = λ i n. put-each (keys S) (λ i l. same i k ≡ false → of_key S k l ≡ []) j l w (λ n. e)
+      others = λ i n. put-each (keys S) L (λ i l. same i k ≡ false → of_key S k l ≡ []) j l w (λ n. e)
           (λ i f. h.others i) i n;
     }
 

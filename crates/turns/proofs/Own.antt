@@ -5,7 +5,7 @@ use mathlib.Core.Bool.{Bool, true, false, cond, ◌&&◌}
 use mathlib.Core.List.{List, [], ◌∷◌, ◌++◌, append_assoc}
 use Rattle.turns.specs.Service.{Kind, opening, band, closing, abandoning, looking, changing, Mark, accepted}
 use Rattle.turns.specs.Service.{refused, crowded}
-use Rattle.turns.specs.Service.{Service, keys, put, Entry}
+use Rattle.turns.specs.Service.{Service, KeyLaws, keys, put, Entry}
 use Rattle.turns.specs.Serial.{Waiting, waits_as, serves_as, serial_from, serial}
 use Rattle.turns.specs.Strike.{strike, closed_in, left_as, fate_as}
 use Rattle.turns.specs.Base.{keep}
@@ -13,8 +13,9 @@ use Rattle.turns.proofs.Base.{put-each}
 use Rattle.ground.proofs.Bools.{no_way}
 use Rattle.turns.specs.Own.{own_kind, own}
 
-module _ (S : Service) (k : S.Key) where
-  open S use {Key, same, same_self, same_only, key, kind}
+module _ (S : Service) (L : KeyLaws S.Key S.same) (k : S.Key) where
+  open S use {Key, same, key, kind}
+  open L use {same_self, same_only}
 
   keep_append : (v : Bool) (e : Entry S) (es fs : List (Entry S)) → keep v e (es ++ fs) ≡ keep v e es ++ fs
   keep_append true e es fs = refl
@@ -55,7 +56,7 @@ module _ (S : Service) (k : S.Key) where
   fit-own : (w : Waiting S) (j : Key) (l : List (Entry S)) → j ≡ k → own S k l ≡ l → Fit w → Fit (put (keys S) j l w)
   fit-own w j l q o h = record {
     self = rw (q, same_self k) o;
-    others = λ i n. put-each (keys S) (λ i l. same i k ≡ false → own S k l ≡ []) j l w
+    others = λ i n. put-each (keys S) L (λ i l. same i k ≡ false → own S k l ≡ []) j l w
         (λ n. no_way (sym (same_self k) ∙ ap (λ (z : Key). same z k) (sym q) ∙ n)) (λ i f. h.others i) i n;
   }
 
@@ -63,7 +64,7 @@ module _ (S : Service) (k : S.Key) where
       → Fit (put (keys S) j l w)
   fit-other w j l q o h = record {
     self = rw q h.self;
-    others = λ i n. put-each (keys S) (λ i l. same i k ≡ false → own S k l ≡ []) j l w (λ n. o) (λ i f. h.others i)
+    others = λ i n. put-each (keys S) L (λ i l. same i k ≡ false → own S k l ≡ []) j l w (λ n. o) (λ i f. h.others i)
         i n;
   }
 

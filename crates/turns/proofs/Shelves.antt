@@ -7,7 +7,7 @@ use mathlib.Core.Option.{Option, some, none}
 use Prim.Native.Nat.{ℕ, zero, suc}
 use lib.ListN.{length}
 use Rattle.ground.specs.Options.{given}
-use Rattle.turns.specs.Service.{Keys}
+use Rattle.turns.specs.Service.{Keys, KeyLaws}
 use Rattle.turns.proofs.Office.{Cell, cell}
 use Rattle.turns.proofs.CellDesk.{placed}
 use Rattle.turns.proofs.Slots.{Named, Slots, find, update, used, free, Lone, Updated, updated}
@@ -33,7 +33,7 @@ given-place none (some p) = refl
 given-place none none = refl
 
 module _ (K : Keys) (Table Page : Type 0) where
-  open K use {Key, same, same_only}
+  open K use {Key, same}
 
   pub record Shelves : Type 0 where
     pub page_slots : Slots K Page
@@ -65,16 +65,18 @@ module _ (K : Keys) (Table Page : Type 0) where
     pub lone-places : Lone K (Option Table) s.class_places
 
   -- one key's cell stored: it stands there, the others are as they were, and all fits as before
-  module _ (s : Shelves) (z : Fitting s) (k : Key) (y : Cell Table Page) (f : no_slot s k y ≡ false)
-      (g : no_class_place s k y ≡ false) where
+  module _ (L : KeyLaws Key same) (s : Shelves) (z : Fitting s) (k : Key) (y : Cell Table Page)
+      (f : no_slot s k y ≡ false) (g : no_class_place s k y ≡ false) where
+    open L use {same_only}
+
     pub pages-then : Updated K Page k y.page s.page_slots (update K Page k y.page s.page_slots)
     unfolding no_slot
-    pages-then = updated K Page k y.page s.page_slots z.lone-pages f
+    pages-then = updated K Page L k y.page s.page_slots z.lone-pages f
 
     pub places_then : Updated K (Option Table) k (place_of y.learned y.page) s.class_places
         (update K (Option Table) k (place_of y.learned y.page) s.class_places)
     unfolding no_class_place
-    places_then = updated K (Option Table) k (place_of y.learned y.page) s.class_places z.lone-places g
+    places_then = updated K (Option Table) L k (place_of y.learned y.page) s.class_places z.lone-places g
 
     pub own-cell : y ≡ cell_at (slot_store s k y) k
     unfolding slot_store

@@ -7,7 +7,7 @@ use mathlib.Core.Option.{Option}
 use lib.ListN.{length}
 use Rattle.ground.specs.Options.{given}
 use Rattle.turns.specs.Service.{Mark, accepted, refused, crowded, Keys, keys, Entry, calls}
-use Rattle.turns.proofs.Office.{Cell, Result, refuse, accept, Office, service}
+use Rattle.turns.proofs.Office.{Cell, Result, refuse, accept, Office, service, laws_of}
 use Rattle.turns.proofs.CellDesk.{has_page, has_place, Desk, Outcome, new_desk, store, no_page, no_place, admit}
 use Rattle.turns.proofs.CellDesk.{settle}
 use Rattle.turns.proofs.CellDesk.{step, run, after}
@@ -99,16 +99,16 @@ module _ (O : Office) where
     unfolding slot_store store
     seen-store k y f g =
         record {
-          cells = put-each K (λ j x. x ≡ cell_in (slot_store K Table Page s k y) j) k y d.cells
-              (own-cell K Table Page s z.fitting k y f g)
-              (λ j n. z.cells j ∙ sym (other-cell K Table Page s z.fitting k y f g j n));
-          fitting = fitting-store K Table Page s z.fitting k y f g;
-          size-pages = (pages-then K Table Page s z.fitting k y f g).size ∙ z.size-pages;
-          size-places = (places_then K Table Page s z.fitting k y f g).size ∙ z.size-places;
+          cells = put-each K (laws_of O) (λ j x. x ≡ cell_in (slot_store K Table Page s k y) j) k y d.cells
+              (own-cell K Table Page (laws_of O) s z.fitting k y f g)
+              (λ j n. z.cells j ∙ sym (other-cell K Table Page (laws_of O) s z.fitting k y f g j n));
+          fitting = fitting-store K Table Page (laws_of O) s z.fitting k y f g;
+          size-pages = (pages-then K Table Page (laws_of O) s z.fitting k y f g).size ∙ z.size-pages;
+          size-places = (places_then K Table Page (laws_of O) s z.fitting k y f g).size ∙ z.size-places;
           count-pages = rw (z.count-pages, ← page-given k)
-              (sym (pages-then K Table Page s z.fitting k y f g).count);
+              (sym (pages-then K Table Page (laws_of O) s z.fitting k y f g).count);
           count-places = rw (z.count-places, ← place-given k, ← given-place y.learned y.page)
-              (sym (places_then K Table Page s z.fitting k y f g).count);
+              (sym (places_then K Table Page (laws_of O) s z.fitting k y f g).count);
         }
 
   -- two outcomes that answer the same and leave desks that are seen as the same

@@ -5,7 +5,7 @@ use mathlib.Core.Bool.{Bool, true, false, cond}
 use mathlib.Core.List.{List, [], ◌∷◌, map}
 use mathlib.Core.Option.{Option, some, none}
 use Rattle.ground.specs.Options.{given}
-use Rattle.turns.specs.Service.{Keys}
+use Rattle.turns.specs.Service.{Keys, KeyLaws}
 use Rattle.turns.proofs.Slots.{Named, Slots, named, find, erase, replace, insert, update, update_by}
 
 -- a in the place of the first element that passes the test
@@ -27,7 +27,7 @@ map_first f t a (b ∷ s) = go (t (f b)) (map_first f t a s)
     go false ih = ap (λ l. f b ∷ l) ih
 
 module _ (K : Keys) (A : Type 0) where
-  open K use {Key, same, same_only}
+  open K use {Key, same}
 
   abbrev pub has_name : Key → Option (Named K A) → Bool
   has_name k none = false
@@ -55,25 +55,6 @@ module _ (K : Keys) (A : Type 0) where
   insert-first k v (none ∷ s) = refl
   insert-first k v (some n ∷ s) = ap (λ l. some n ∷ l) (insert-first k v s)
 
-  -- what stood there put back: nothing changes
-  replace-same : (k : Key) (v : A) (s : Slots K A) → find K A k s ≡ some v → replace K A k v s ≡ s
-  unfolding find replace
-  replace-same k v [] h = refl
-  replace-same k v (none ∷ s) h = ap (λ l. none ∷ l) (replace-same k v s h)
-  replace-same k v (some n ∷ s) h = go (same n.name k) refl h (replace-same k v s)
-    where
-      go : (b : Bool) → same n.name k ≡ b → cond b (some n.value) (find K A k s) ≡ some v
-          → (find K A k s ≡ some v → replace K A k v s ≡ s) → cond b (named K A k v ∷ s) (some n ∷ replace K A k v s)
-          ≡ some n ∷ s
-      go true e h ih = let q : n.value ≡ v = cc in
-          λ i. some (record { name = sym (same_only n.name k e) i; value = sym q i }) ∷ s
-      go false e h ih = ap (λ l. some n ∷ l) (ih h)
-
-  pub update_same : (k : Key) (o : Option A) (s : Slots K A) → find K A k s ≡ o → update K A k o s ≡ s
-  unfolding update update_by
-  update_same k none s e = rw e
-  update_same k (some v) s e = rw e (replace-same k v s e)
-
   -- a change of the key's own slot; of no slot of its own: the lowest free one is taken
   pub update-free : (k : Key) (s : Slots K A) → given (find K A k s) ≡ true → update K A k none s ≡ at_first
       (has_name k) none s
@@ -89,3 +70,26 @@ module _ (K : Keys) (A : Type 0) where
       ≡ at_first is_free (named K A k v) s
   unfolding update update_by
   update-take k v s e = rw e (insert-first k v s)
+
+  -- where the test of names has its laws
+  module _ (L : KeyLaws Key same) where
+    open L use {same_only}
+
+    -- what stood there put back: nothing changes
+    replace-same : (k : Key) (v : A) (s : Slots K A) → find K A k s ≡ some v → replace K A k v s ≡ s
+    unfolding find replace
+    replace-same k v [] h = refl
+    replace-same k v (none ∷ s) h = ap (λ l. none ∷ l) (replace-same k v s h)
+    replace-same k v (some n ∷ s) h = go (same n.name k) refl h (replace-same k v s)
+      where
+        go : (b : Bool) → same n.name k ≡ b → cond b (some n.value) (find K A k s) ≡ some v
+            → (find K A k s ≡ some v → replace K A k v s ≡ s) → cond b (named K A k v ∷ s) (some n ∷ replace K A k v s)
+            ≡ some n ∷ s
+        go true e h ih = let q : n.value ≡ v = cc in
+            λ i. some (record { name = sym (same_only n.name k e) i; value = sym q i }) ∷ s
+        go false e h ih = ap (λ l. some n ∷ l) (ih h)
+
+    pub update_same : (k : Key) (o : Option A) (s : Slots K A) → find K A k s ≡ o → update K A k o s ≡ s
+    unfolding update update_by
+    update_same k none s e = rw e
+    update_same k (some v) s e = rw e (replace-same k v s e)

@@ -10,12 +10,12 @@ use lib.ListN.{length}
 use borrow.Author.Tests.{lt-leb}
 use Rattle.ground.proofs.Options.{none-given}
 use Rattle.ground.specs.Options.{given}
-use Rattle.turns.specs.Service.{Keys}
+use Rattle.turns.specs.Service.{Keys, KeyLaws}
 use Rattle.turns.specs.Base.{one}
 use Rattle.ground.proofs.Bools.{no_way}
 
 module _ (K : Keys) (A : Type 0) where
-  open K use {Key, same, same_self, same_only}
+  open K use {Key, same}
 
   pub record Named : Type 0 where
     pub name : Key
@@ -73,78 +73,12 @@ module _ (K : Keys) (A : Type 0) where
   Lone (none ∷ s) = Lone s
   Lone (some n ∷ s) = (find n.name s ≡ none) × Lone s
 
-  same-flip : (j k : Key) → same j k ≡ false → same k j ≡ false
-  same-flip j k h = go (same k j) refl
-    where
-      go : (v : Bool) → same k j ≡ v → v ≡ false
-      go true e = no_way (sym (same_self j) ∙ ap (same j) (sym (same_only k j e)) ∙ h)
-      go false e = refl
-
-  -- ---- found after a change: another name
-  find-erase : (k j : Key) (s : Slots) → same k j ≡ false → find j (erase k s) ≡ find j s
-  unfolding find erase
-  find-erase k j [] n = refl
-  find-erase k j (none ∷ s) n = find-erase k j s n
-  find-erase k j (some m ∷ s) n = go (same m.name k) refl (find-erase k j s n)
-    where
-      go : (v : Bool) → same m.name k ≡ v → find j (erase k s) ≡ find j s
-          → find j (cond v (none ∷ s) (some m ∷ erase k s)) ≡ cond (same m.name j) (some m.value) (find j s)
-      go true e ih = rw (same_only m.name k e, n)
-      go false e ih = rw ih
-
-  find-replace : (k j : Key) (a : A) (s : Slots) → same k j ≡ false → find j (replace k a s) ≡ find j s
-  unfolding find replace
-  find-replace k j a [] n = refl
-  find-replace k j a (none ∷ s) n = find-replace k j a s n
-  find-replace k j a (some m ∷ s) n = go (same m.name k) refl (find-replace k j a s n)
-    where
-      go : (v : Bool) → same m.name k ≡ v → find j (replace k a s) ≡ find j s
-          → find j (cond v (named k a ∷ s) (some m ∷ replace k a s)) ≡ cond (same m.name j) (some m.value)
-          (find j s)
-      go true e ih = rw (same_only m.name k e, n)
-      go false e ih = rw ih
-
+  -- ---- found after another name is inserted
   find-insert : (k j : Key) (a : A) (s : Slots) → same k j ≡ false → find j (insert k a s) ≡ find j s
   unfolding find insert
   find-insert k j a [] n = refl
   find-insert k j a (none ∷ s) n = rw n
   find-insert k j a (some m ∷ s) n = rw (find-insert k j a s n)
-
-  -- the name itself
-  own-erase : (k : Key) (s : Slots) → Lone s → find k (erase k s) ≡ none
-  unfolding find erase Lone
-  own-erase k [] l = refl
-  own-erase k (none ∷ s) l = own-erase k s l
-  own-erase k (some m ∷ s) l = go (same m.name k) refl (own-erase k s l.1)
-    where
-      go : (v : Bool) → same m.name k ≡ v → find k (erase k s) ≡ none
-          → find k (cond v (none ∷ s) (some m ∷ erase k s)) ≡ none
-      go true e ih = rw (← same_only m.name k e) l.0
-      go false e ih = rw e ih
-
-  own-replace : (k : Key) (a : A) (s : Slots) → given (find k s) ≡ true → find k (replace k a s) ≡ some a
-  unfolding find replace
-  own-replace k a [] h = no_way (sym h)
-  own-replace k a (none ∷ s) h = own-replace k a s h
-  own-replace k a (some m ∷ s) h = go (same m.name k) refl (own-replace k a s) h
-    where
-      go : (v : Bool) → same m.name k ≡ v → (given (find k s) ≡ true → find k (replace k a s) ≡ some a)
-          → given (cond v (some m.value) (find k s)) ≡ true
-          → find k (cond v (named k a ∷ s) (some m ∷ replace k a s)) ≡ some a
-      go true e ih h = rw (same_self k)
-      go false e ih h = rw e (ih h)
-
-  own-insert : (k : Key) (a : A) (s : Slots) → given (find k s) ≡ false → free s ≡ true → find k (insert k a s) ≡ some a
-  unfolding find insert free
-  own-insert k a [] h f = no_way (sym f)
-  own-insert k a (none ∷ s) h f = rw (same_self k)
-  own-insert k a (some m ∷ s) h f = go (same m.name k) h (λ g. own-insert k a s g f)
-    where
-      go : (v : Bool) → given (cond v (some m.value) (find k s)) ≡ false
-          → (given (find k s) ≡ false → find k (insert k a s) ≡ some a)
-          → cond v (some m.value) (find k (insert k a s)) ≡ some a
-      go true h ih = no_way h
-      go false h ih = ih h
 
   -- ---- how many slots are in use
   used-erase : (k : Key) (s : Slots) → given (find k s) ≡ true → used s ≡ suc (used (erase k s))
@@ -204,40 +138,6 @@ module _ (K : Keys) (A : Type 0) where
   length-insert k a (none ∷ s) = refl
   length-insert k a (some m ∷ s) = ap suc (length-insert k a s)
 
-  -- ---- different names stay different
-  lone-erase : (k : Key) (s : Slots) → Lone s → Lone (erase k s)
-  unfolding find erase Lone
-  lone-erase k [] l = l
-  lone-erase k (none ∷ s) l = lone-erase k s l
-  lone-erase k (some m ∷ s) l = go (same m.name k) refl (lone-erase k s l.1)
-    where
-      go : (v : Bool) → same m.name k ≡ v → Lone (erase k s) → Lone (cond v (none ∷ s) (some m ∷ erase k s))
-      go true e ih = l.1
-      go false e ih = (find-erase k m.name s (same-flip m.name k e) ∙ l.0, ih)
-
-  lone-replace : (k : Key) (a : A) (s : Slots) → Lone s → Lone (replace k a s)
-  unfolding find replace Lone
-  lone-replace k a [] l = l
-  lone-replace k a (none ∷ s) l = lone-replace k a s l
-  lone-replace k a (some m ∷ s) l = go (same m.name k) refl (lone-replace k a s l.1)
-    where
-      go : (v : Bool) → same m.name k ≡ v → Lone (replace k a s)
-          → Lone (cond v (named k a ∷ s) (some m ∷ replace k a s))
-      go true e ih = (rw (← same_only m.name k e) l.0, l.1)
-      go false e ih = (find-replace k m.name a s (same-flip m.name k e) ∙ l.0, ih)
-
-  lone-insert : (k : Key) (a : A) (s : Slots) → given (find k s) ≡ false → Lone s → Lone (insert k a s)
-  unfolding find insert Lone
-  lone-insert k a [] h l = l
-  lone-insert k a (none ∷ s) h l = (none-given (find k s) h, l)
-  lone-insert k a (some m ∷ s) h l = go (same m.name k) refl h (λ g. lone-insert k a s g l.1)
-    where
-      go : (v : Bool) → same m.name k ≡ v → given (cond v (some m.value) (find k s)) ≡ false
-          → (given (find k s) ≡ false → Lone (insert k a s)) → (find m.name (insert k a s) ≡ none)
-          × Lone (insert k a s)
-      go true e h ih = no_way h
-      go false e h ih = (find-insert k m.name a s (same-flip m.name k e) ∙ l.0, ih h)
-
   -- no slot is free exactly where as many are used as there are
   used_le : (s : Slots) → used s ≤ length s
   unfolding used
@@ -259,44 +159,149 @@ module _ (K : Keys) (A : Type 0) where
     pub size : length s' ≡ length s
     pub count : used s' ≡ used s + one (given o) - one (given (find k s))
 
-  pub updated : (k : Key) (o : Option A) (s : Slots) → Lone s → ((not (given (find k s)) && given o) && not (free s))
-      ≡ false → Updated k o s (update k o s)
-  unfolding update update_by
-  updated k o s l r = go (given (find k s)) o refl r
-    where
-      is_free_lem : (v : Bool) → not v ≡ false → v ≡ true
-      is_free_lem true h = refl
-      is_free_lem false h = sym h
+  -- where the test of names has its laws
+  module _ (L : KeyLaws Key same) where
+    open L use {same_self, same_only}
 
-      go : (v : Bool) (o : Option A) → given (find k s) ≡ v → ((not v && given o) && not (free s)) ≡ false
-          → Updated k o s (update_by v k o s)
-      go true none e r =
-          record {
-            self = own-erase k s l;
-            other = λ j n. find-erase k j s n;
-            lone = lone-erase k s l;
-            size = length-erase k s;
-            count = rw e (omega (arith, used-erase k s e));
-          }
-      go true (some a) e r = record {
-        self = own-replace k a s e;
-        other = λ j n. find-replace k j a s n;
-        lone = lone-replace k a s l;
-        size = length-replace k a s;
-        count = rw (e, used-replace k a s) (omega arith);
-      }
-      go false none e r = record {
-        self = none-given (find k s) e;
-        other = λ j n. refl;
-        lone = l;
-        size = refl;
-        count = rw e (omega arith);
-      }
-      go false (some a) e r =
-          record {
-            self = own-insert k a s e (is_free_lem (free s) r);
-            other = λ j n. find-insert k j a s n;
-            lone = lone-insert k a s e l;
-            size = length-insert k a s;
-            count = rw (e, used-insert k a s (is_free_lem (free s) r)) (omega arith);
-          }
+    same-flip : (j k : Key) → same j k ≡ false → same k j ≡ false
+    same-flip j k h = go (same k j) refl
+      where
+        go : (v : Bool) → same k j ≡ v → v ≡ false
+        go true e = no_way (sym (same_self j) ∙ ap (same j) (sym (same_only k j e)) ∙ h)
+        go false e = refl
+
+    -- ---- found after a change: another name
+    find-erase : (k j : Key) (s : Slots) → same k j ≡ false → find j (erase k s) ≡ find j s
+    unfolding find erase
+    find-erase k j [] n = refl
+    find-erase k j (none ∷ s) n = find-erase k j s n
+    find-erase k j (some m ∷ s) n = go (same m.name k) refl (find-erase k j s n)
+      where
+        go : (v : Bool) → same m.name k ≡ v → find j (erase k s) ≡ find j s
+            → find j (cond v (none ∷ s) (some m ∷ erase k s)) ≡ cond (same m.name j) (some m.value) (find j s)
+        go true e ih = rw (same_only m.name k e, n)
+        go false e ih = rw ih
+
+    find-replace : (k j : Key) (a : A) (s : Slots) → same k j ≡ false → find j (replace k a s) ≡ find j s
+    unfolding find replace
+    find-replace k j a [] n = refl
+    find-replace k j a (none ∷ s) n = find-replace k j a s n
+    find-replace k j a (some m ∷ s) n = go (same m.name k) refl (find-replace k j a s n)
+      where
+        go : (v : Bool) → same m.name k ≡ v → find j (replace k a s) ≡ find j s
+            → find j (cond v (named k a ∷ s) (some m ∷ replace k a s)) ≡ cond (same m.name j) (some m.value)
+            (find j s)
+        go true e ih = rw (same_only m.name k e, n)
+        go false e ih = rw ih
+
+    -- the name itself
+    own-erase : (k : Key) (s : Slots) → Lone s → find k (erase k s) ≡ none
+    unfolding find erase Lone
+    own-erase k [] l = refl
+    own-erase k (none ∷ s) l = own-erase k s l
+    own-erase k (some m ∷ s) l = go (same m.name k) refl (own-erase k s l.1)
+      where
+        go : (v : Bool) → same m.name k ≡ v → find k (erase k s) ≡ none
+            → find k (cond v (none ∷ s) (some m ∷ erase k s)) ≡ none
+        go true e ih = rw (← same_only m.name k e) l.0
+        go false e ih = rw e ih
+
+    own-replace : (k : Key) (a : A) (s : Slots) → given (find k s) ≡ true → find k (replace k a s) ≡ some a
+    unfolding find replace
+    own-replace k a [] h = no_way (sym h)
+    own-replace k a (none ∷ s) h = own-replace k a s h
+    own-replace k a (some m ∷ s) h = go (same m.name k) refl (own-replace k a s) h
+      where
+        go : (v : Bool) → same m.name k ≡ v → (given (find k s) ≡ true → find k (replace k a s) ≡ some a)
+            → given (cond v (some m.value) (find k s)) ≡ true
+            → find k (cond v (named k a ∷ s) (some m ∷ replace k a s)) ≡ some a
+        go true e ih h = rw (same_self k)
+        go false e ih h = rw e (ih h)
+
+    own-insert : (k : Key) (a : A) (s : Slots) → given (find k s) ≡ false → free s ≡ true → find k (insert k a s) ≡ some a
+    unfolding find insert free
+    own-insert k a [] h f = no_way (sym f)
+    own-insert k a (none ∷ s) h f = rw (same_self k)
+    own-insert k a (some m ∷ s) h f = go (same m.name k) h (λ g. own-insert k a s g f)
+      where
+        go : (v : Bool) → given (cond v (some m.value) (find k s)) ≡ false
+            → (given (find k s) ≡ false → find k (insert k a s) ≡ some a)
+            → cond v (some m.value) (find k (insert k a s)) ≡ some a
+        go true h ih = no_way h
+        go false h ih = ih h
+
+    -- ---- different names stay different
+    lone-erase : (k : Key) (s : Slots) → Lone s → Lone (erase k s)
+    unfolding find erase Lone
+    lone-erase k [] l = l
+    lone-erase k (none ∷ s) l = lone-erase k s l
+    lone-erase k (some m ∷ s) l = go (same m.name k) refl (lone-erase k s l.1)
+      where
+        go : (v : Bool) → same m.name k ≡ v → Lone (erase k s) → Lone (cond v (none ∷ s) (some m ∷ erase k s))
+        go true e ih = l.1
+        go false e ih = (find-erase k m.name s (same-flip m.name k e) ∙ l.0, ih)
+
+    lone-replace : (k : Key) (a : A) (s : Slots) → Lone s → Lone (replace k a s)
+    unfolding find replace Lone
+    lone-replace k a [] l = l
+    lone-replace k a (none ∷ s) l = lone-replace k a s l
+    lone-replace k a (some m ∷ s) l = go (same m.name k) refl (lone-replace k a s l.1)
+      where
+        go : (v : Bool) → same m.name k ≡ v → Lone (replace k a s)
+            → Lone (cond v (named k a ∷ s) (some m ∷ replace k a s))
+        go true e ih = (rw (← same_only m.name k e) l.0, l.1)
+        go false e ih = (find-replace k m.name a s (same-flip m.name k e) ∙ l.0, ih)
+
+    lone-insert : (k : Key) (a : A) (s : Slots) → given (find k s) ≡ false → Lone s → Lone (insert k a s)
+    unfolding find insert Lone
+    lone-insert k a [] h l = l
+    lone-insert k a (none ∷ s) h l = (none-given (find k s) h, l)
+    lone-insert k a (some m ∷ s) h l = go (same m.name k) refl h (λ g. lone-insert k a s g l.1)
+      where
+        go : (v : Bool) → same m.name k ≡ v → given (cond v (some m.value) (find k s)) ≡ false
+            → (given (find k s) ≡ false → Lone (insert k a s)) → (find m.name (insert k a s) ≡ none)
+            × Lone (insert k a s)
+        go true e h ih = no_way h
+        go false e h ih = (find-insert k m.name a s (same-flip m.name k e) ∙ l.0, ih h)
+
+    pub updated : (k : Key) (o : Option A) (s : Slots) → Lone s → ((not (given (find k s)) && given o) && not (free s))
+        ≡ false → Updated k o s (update k o s)
+    unfolding update update_by
+    updated k o s l r = go (given (find k s)) o refl r
+      where
+        is_free_lem : (v : Bool) → not v ≡ false → v ≡ true
+        is_free_lem true h = refl
+        is_free_lem false h = sym h
+
+        go : (v : Bool) (o : Option A) → given (find k s) ≡ v → ((not v && given o) && not (free s)) ≡ false
+            → Updated k o s (update_by v k o s)
+        go true none e r =
+            record {
+              self = own-erase k s l;
+              other = λ j n. find-erase k j s n;
+              lone = lone-erase k s l;
+              size = length-erase k s;
+              count = rw e (omega (arith, used-erase k s e));
+            }
+        go true (some a) e r = record {
+          self = own-replace k a s e;
+          other = λ j n. find-replace k j a s n;
+          lone = lone-replace k a s l;
+          size = length-replace k a s;
+          count = rw (e, used-replace k a s) (omega arith);
+        }
+        go false none e r = record {
+          self = none-given (find k s) e;
+          other = λ j n. refl;
+          lone = l;
+          size = refl;
+          count = rw e (omega arith);
+        }
+        go false (some a) e r =
+            record {
+              self = own-insert k a s e (is_free_lem (free s) r);
+              other = λ j n. find-insert k j a s n;
+              lone = lone-insert k a s e l;
+              size = length-insert k a s;
+              count = rw (e, used-insert k a s (is_free_lem (free s) r)) (omega arith);
+            }

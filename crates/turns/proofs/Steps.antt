@@ -10,7 +10,7 @@ use borrow.Author.Tests.{lt-leb}
 use Rattle.ground.specs.Options.{given}
 use Rattle.ground.proofs.Bools.{no_way, and-false}
 use Rattle.turns.specs.Service.{accepted, refused, crowded, keys, put, Entry, Service, Keys}
-use Rattle.turns.proofs.Office.{Cell, Result, refuse, accept, Office, cell, service}
+use Rattle.turns.proofs.Office.{Cell, Result, refuse, accept, Office, cell, service, laws_of}
 use Rattle.turns.specs.Base.{one}
 use Rattle.turns.proofs.CellDesk.{has_page, has_place, Desk, Outcome, store, no_page, no_place, admit, settle, step}
 use Rattle.turns.proofs.CellDesk.{run}
@@ -88,11 +88,11 @@ module _ (O : Office) where
     where
       p : s.pages_open + one (has_page x) - one (has_page (s.cells k)) + one (has_page y) - one
           (has_page (put K k x s.cells k)) ≡ s.pages_open + one (has_page y) - one (has_page (s.cells k))
-      p = rw (put_self K k x s.cells, h, n) (omega arith)
+      p = rw (put_self K (laws_of O) k x s.cells, h, n) (omega arith)
 
       q : s.places_taken + one (has_place x) - one (has_place (s.cells k)) + one (has_place y) - one
           (has_place (put K k x s.cells k)) ≡ s.places_taken + one (has_place y) - one (has_place (s.cells k))
-      q = rw (put_self K k x s.cells, placed-page x.learned x.page h)
+      q = rw (put_self K (laws_of O) k x s.cells, placed-page x.learned x.page h)
           (num-again s.places_taken (one (has_place (s.cells k))) (one (has_place y)) (one-le (has_place (s.cells k))))
 
   -- room is there where none more is wanted, or where the count is below the limit

@@ -6,15 +6,16 @@ use mathlib.Core.List.{List, [], ◌∷◌, ◌++◌}
 use Prim.Native.Nat.{ℕ, ◌+◌}
 use native.Mathlib.Omega.{arith}
 use Rattle.turns.specs.Service.{Kind, opening, band, closing, abandoning, looking, changing, Mark, accepted}
-use Rattle.turns.specs.Service.{refused, crowded, Service, keys, put, Entry}
+use Rattle.turns.specs.Service.{refused, crowded, Service, KeyLaws, keys, put, Entry}
 use Rattle.turns.specs.Base.{one}
 use Rattle.turns.specs.Serial.{Waiting, waits_as, serves_as, serial_from, serial}
 use Rattle.turns.specs.Base.{keep}
 use Rattle.turns.proofs.Base.{put-each}
 use Rattle.turns.specs.Strike.{count, weight, fate_as, left_as, closed_in, strike}
 
-module _ (S : Service) where
-  open S use {Key, same, same_self, same_only, key, kind}
+module _ (S : Service) (L : KeyLaws S.Key S.same) where
+  open S use {Key, same, key, kind}
+  open L use {same_self, same_only}
 
   module _ (k : Key) (t : Entry S → Bool) where
     count-append : (es fs : List (Entry S)) → count S k t (es ++ fs) ≡ count S k t es + (count S k t) fs
@@ -87,7 +88,7 @@ module _ (S : Service) where
 
     apart-put : (w : Waiting S) (j : Key) (l : List (Entry S)) → (same j k ≡ false → count S k t l ≡ 0) → Apart w
         → Apart (put (keys S) j l w)
-    apart-put w j l e h = put-each (keys S) (λ i l. same i k ≡ false → count S k t l ≡ 0) j l w e (λ i f. h i)
+    apart-put w j l e h = put-each (keys S) L (λ i l. same i k ≡ false → count S k t l ≡ 0) j l w e (λ i f. h i)
 
     apart-waits : (m : Mark) (κ : Kind) (w : Waiting S) (e : Entry S) → Apart w → Apart (waits_as S m κ w e)
     unfolding waits_as count

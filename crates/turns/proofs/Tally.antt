@@ -7,7 +7,7 @@ use native.Mathlib.Omega.{arith}
 use lib.ListN.{length}
 use Rattle.ground.specs.Options.{given}
 use Rattle.turns.specs.Service.{keys, Service, Keys}
-use Rattle.turns.proofs.Office.{Cell, Office, service}
+use Rattle.turns.proofs.Office.{Cell, Office, service, laws_of}
 use Rattle.turns.specs.Base.{one}
 use Rattle.turns.proofs.CellDesk.{has_place, Desk, store, no_place}
 use Rattle.turns.proofs.Base.{only_reserved, placed-sum, room-below, put-each, has, relist, has_one}
@@ -54,11 +54,11 @@ module _ (O : Office) where
         (placed-sum (d.cells k).learned (d.cells k).page) (placed-sum y.learned y.page)
         (one_in k gx ls (i.learnt k)) (one_in k rx ks (i.reserved k)));
     below = room-below (has_place (d.cells k)) (has_place y) places d.places_taken n i.below;
-    learnt = put-each K (λ j x. given x.learned ≡ true → has K j (relist K k gx gy ls) ≡ true) k y d.cells
-        (relist-self K k gx gy ls (i.learnt k)) (λ j f h. relist-other K k j gx gy ls f (i.learnt j h));
-    reserved = put-each K (λ j x. only_reserved x.learned x.page ≡ true → has K j (relist K k rx ry ks) ≡ true) k
+    learnt = put-each K (laws_of O) (λ j x. given x.learned ≡ true → has K j (relist K k gx gy ls) ≡ true) k y d.cells
+        (relist-self K (laws_of O) k gx gy ls (i.learnt k)) (λ j f h. relist-other K (laws_of O) k j gx gy ls f (i.learnt j h));
+    reserved = put-each K (laws_of O) (λ j x. only_reserved x.learned x.page ≡ true → has K j (relist K k rx ry ks) ≡ true) k
         y d.cells
-        (relist-self K k rx ry ks (i.reserved k)) (λ j f h. relist-other K k j rx ry ks f (i.reserved j h));
+        (relist-self K (laws_of O) k rx ry ks (i.reserved k)) (λ j f h. relist-other K (laws_of O) k j rx ry ks f (i.reserved j h));
   }
     where
       gx : Bool

@@ -14,7 +14,7 @@ use Rattle.ground.specs.Options.{given}
 use Rattle.ground.proofs.Bools.{no_way}
 use Rattle.turns.specs.Service.{Kind, opening, band, closing, abandoning, looking, changing, accepted, keys, put}
 use Rattle.turns.specs.Service.{Entry, calls, Service, Keys}
-use Rattle.turns.proofs.Office.{Cell, accept, Office, cell, service}
+use Rattle.turns.proofs.Office.{Cell, accept, Office, cell, service, laws_of}
 use Rattle.turns.specs.Base.{one}
 use Rattle.turns.proofs.CellDesk.{placed, has_page, has_place, Desk, Outcome, new_desk, store, no_page, no_place}
 use Rattle.turns.proofs.CellDesk.{step}
@@ -83,7 +83,7 @@ module _ (O : Office) where
       → bare (store O d k y) n ≡ bare d n
   unfolding bare store
   bare-same d k y n e = λ i. record {
-    cells = λ j. put-each K (λ j x. shut x ≡ shut (d.cells j)) k y d.cells (ap (λ (t : Option Table). cell t none)
+    cells = λ j. put-each K (laws_of O) (λ j x. shut x ≡ shut (d.cells j)) k y d.cells (ap (λ (t : Option Table). cell t none)
         e) (λ j f. refl) j i;
     pages_open = 0;
     places_taken = n;
@@ -93,7 +93,7 @@ module _ (O : Office) where
       → store O (bare d n) k z ≡ bare (store O d k y) (n + one (given y.learned) - one (given (d.cells k).learned))
   unfolding bare store
   bare-store d k y z n p e = λ i. record {
-    cells = λ j. put_both K (λ j a b. a ≡ shut b) k z (λ j. shut (d.cells j)) y d.cells
+    cells = λ j. put_both K (laws_of O) (λ j a b. a ≡ shut b) k z (λ j. shut (d.cells j)) y d.cells
         (λ i. record { learned = e i; page = p i }) (λ j. refl) j i;
     pages_open = pg i;
     places_taken = pl i;
@@ -127,10 +127,10 @@ module _ (O : Office) where
     unfolding store
     inv-put es h r b = record {
       tally = tally-store O d (key c) y ls ks inv.tally nq;
-      held = put_both K (λ j x es. given x.page ≡ true → Held O j x.learned es x) (key c) y d.cells es w h
+      held = put_both K (laws_of O) (λ j x es. given x.page ≡ true → Held O j x.learned es x) (key c) y d.cells es w h
           inv.held;
-      room = put-each K (λ j x. given x.page ≡ true → 0 < pages) (key c) y d.cells r (λ j f. inv.room j);
-      begun = put_both K (λ j x es. given x.page ≡ true → Begun S j es) (key c) y d.cells es w b inv.begun;
+      room = put-each K (laws_of O) (λ j x. given x.page ≡ true → 0 < pages) (key c) y d.cells r (λ j f. inv.room j);
+      begun = put_both K (laws_of O) (λ j x es. given x.page ≡ true → Begun S j es) (key c) y d.cells es w b inv.begun;
     }
 
     inv-keep : (given y.page ≡ true → Held O (key c) y.learned (w (key c)) y)
@@ -139,10 +139,10 @@ module _ (O : Office) where
     unfolding store
     inv-keep h r b = record {
       tally = tally-store O d (key c) y ls ks inv.tally nq;
-      held = put-each K (λ j x. given x.page ≡ true → Held O j x.learned (w j) x) (key c) y d.cells h
+      held = put-each K (laws_of O) (λ j x. given x.page ≡ true → Held O j x.learned (w j) x) (key c) y d.cells h
           (λ j f. inv.held j);
-      room = put-each K (λ j x. given x.page ≡ true → 0 < pages) (key c) y d.cells r (λ j f. inv.room j);
-      begun = put-each K (λ j x. given x.page ≡ true → Begun S j (w j)) (key c) y d.cells b (λ j f. inv.begun j);
+      room = put-each K (laws_of O) (λ j x. given x.page ≡ true → 0 < pages) (key c) y d.cells r (λ j f. inv.room j);
+      begun = put-each K (laws_of O) (λ j x. given x.page ≡ true → Begun S j (w j)) (key c) y d.cells b (λ j f. inv.begun j);
     }
 
     length-now : length ls' ≡ length ls + one (given y.learned) - one (given (d.cells (key c)).learned)

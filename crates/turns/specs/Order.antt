@@ -5,7 +5,7 @@ use Rattle.turns.specs.Service.{refused, crowded, Service, Entry}
 use Rattle.turns.specs.Base.{keep}
 
 module _ (S : Service) where
-  open S use {Key, same, same_self, same_only, key, kind}
+  open S use {Key, same, key, kind}
 
   -- ---- the order: the accepted closings, looks and drops stand in the serial order as they stood in the run
   -- the calls that have a place of their own: accepted closings, looks and drops

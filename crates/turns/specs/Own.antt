@@ -15,7 +15,7 @@ own_kind looking = false
 own_kind changing = false
 
 module _ (S : Service) (k : S.Key) where
-  open S use {Key, same, same_self, same_only, key, kind}
+  open S use {Key, same, key, kind}
 
   -- the own calls of k's pages
   unfoldable pub own : List (Entry S) → List (Entry S)

@@ -14,6 +14,9 @@ pub data Mark : Type 0 where
 pub record Keys : Type 1 where
   pub Key : Type 0
   pub same : Key → Key → Bool
+
+-- what a test of names has to be: each name is the same as itself, and the same as no other
+pub record KeyLaws (Key : Type 0) (same : Key → Key → Bool) : Type 0 where
   pub same_self : (k : Key) → same k k ≡ true
   pub same_only : (j k : Key) → same j k ≡ true → j ≡ k
 
@@ -22,8 +25,6 @@ pub record Keys : Type 1 where
 pub record Service : Type 1 where
   pub Key : Type 0
   pub same : Key → Key → Bool
-  pub same_self : (k : Key) → same k k ≡ true
-  pub same_only : (j k : Key) → same j k ≡ true → j ≡ k
   pub Call : Type 0
   pub Output : Type 0
   pub key : Call → Key
@@ -31,7 +32,7 @@ pub record Service : Type 1 where
 
 -- the keys of a service
 abbrev pub keys : Service → Keys
-keys S = record { Key = S.Key; same = S.same; same_self = S.same_self; same_only = S.same_only }
+keys S = record { Key = S.Key; same = S.same }
 
 module _ (K : Keys) where
   open K use {Key, same}

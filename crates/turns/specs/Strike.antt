@@ -31,7 +31,7 @@ left_as accepted looking closed = true
 left_as accepted changing closed = true
 
 module _ (S : Service) where
-  open S use {Key, same, same_self, same_only, key, kind}
+  open S use {Key, same, key, kind}
 
   -- the page of k that is open before these calls is closed by one of them
   unfoldable pub closed_in : Key → List (Entry S) → Bool
