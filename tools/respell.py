@@ -1,6 +1,8 @@
 #!/usr/bin/env python3
 """Brings the repository's own definitions and lemmas to today's spelling: words in snake case, types and modules in camel case.
 
+It was run once, after the kit's port.py (docs/PORT.md), and stops where its names stand already.
+
 usage: tools/respell.py            at the top of the repository: respells every .antt file, the clauses and comments of the .rt files and the edits
        tools/respell.py --list     prints each old name and its new one
 

@@ -31,6 +31,7 @@ pub const THEOREMS: &[(&str, &[&str])] = &[
     ("writer", &["either-engine"]),
     // demand 3
     ("demands", &["any_order", "as-run", "any-history"]),
+    ("serial", &["calling_keys"]),
     // document 01: pels; the fresh table; the table of source document 000
     ("template", &["pel-bit"]),
     ("estimate", &["fresh-entry", "agrees"]),
@@ -47,7 +48,7 @@ pub const THEOREMS: &[(&str, &[&str])] = &[
     // nothing more can vary
     ("unique", &["one_reader"]),
     ("demands", &["certain", "certain-parts"]),
-    ("counter", &["desk-bytes"]),
+    ("counter", &["desk-bytes", "desk-offsets"]),
 ];
 
 /// Document 01's sections in its order, then the demands; in each its files in
