@@ -29,11 +29,12 @@ whole c = c.lawful_desk-good.ensures.1
 there : (c : In-On) →
     Stood (desk_of (parts (goal.at.In-On c).Start)) c.args.key true (slot c)
 there c =
+    let past = goal.at.In-On c in
     let k = c.args.key in
-    let p = parts (goal.at.In-On c).Start in
+    let p = parts past.Start in
     let r = c.page_for-stands in
     stood (desk_of p) k true r.result
-    (stands-as p (whole (goal.at.In-On c).After-page_for-stands) _ k true r.result c.lawful_desk-good.ensures.0 r.ensures.0) _
+    (stands-as p (whole past.After-page_for-stands) _ k true r.result c.lawful_desk-good.ensures.0 r.ensures.0) _
     c.in-On.is
 
 slot-within : (c : In-On) → slot c < max_pages
@@ -41,13 +42,15 @@ slot-within c = rw c.in-On.is at c.page_for-stands.ensures.1
 
 -- ---- the page
 pub returns-in_default : goal.returns-in_default
-returns-in_default c = let k = c.args.key in
-    let p = parts (goal.at.returns-in_default c).Start in
+returns-in_default c =
+    let past = goal.at.returns-in_default c in
+    let k = c.args.key in
+    let p = parts past.Start in
     let r = c.page_for-stands in
     let n = c.in_default.is in
     let w = away (desk_of p) k true r.result
-    (stands-as p (whole (goal.at.returns-in_default c).After-page_for-stands) _ k true r.result c.lawful_desk-good.ensures.0 r.ensures.0) _ n in
-    turns-away p (whole (goal.at.returns-in_default c).After-page_for-stands) (closes k) r.result _ c.turned_away.result [] n
+    (stands-as p (whole past.After-page_for-stands) _ k true r.result c.lawful_desk-good.ensures.0 r.ensures.0) _ n in
+    turns-away p (whole past.After-page_for-stands) (closes k) r.result _ c.turned_away.result [] n
     (close-number (desk_of p) k ∙ w.1 []) w.0.0 c.turned_away.ensures (nothing_lent _)
 
 -- ---- its class's place, and its slot
@@ -59,10 +62,13 @@ clear_page-next-requires c = (slot-within (goal.at.clear_page-next-requires c).I
 
 pub returns : goal.returns
 unfolding learned_place
-returns c = let t = there (goal.at.returns c).In-On in
+returns c =
+    let past = goal.at.returns c in
+    let t = there past.In-On in
     let k = c.args.key in
-    let p = parts (goal.at.returns c).Start in
+    let p = parts past.Start in
     let n = c.clear_page-next in
-    close-done p (whole (goal.at.returns c).After-page_for-stands) k _ t.found c.put_place-taught.result n.result _ _ _ n.ensures c.done.result
+    close-done p (whole past.After-page_for-stands) k _ t.found c.put_place-taught.result n.result _ _ _ n.ensures
+    c.done.result
     c.find_place-place.result t.good (close-number (desk_of p) k ∙ t.rest [] ∙ at-end) c.find_place-place.ensures.0
     c.put_place-taught.ensures c.done.ensures

@@ -34,13 +34,18 @@ pub loop-i-init : goal.loop-i-init
 loop-i-init c = let n = full c in left-starts (length-pages _ _ _ (n ∙ sym c.requires.0) (n ∙ sym c.requires.1) ∙ n)
 
 pub returns-then-not-lawful-page_known : goal.returns-then-not-lawful-page_known
-returns-then-not-lawful-page_known c = (
-  each-failed c.loop-i.invariant no_page (omega arith) (judged (goal.at.returns-then-not-lawful-page_known c).After-page_known ∙ c.if-not-lawful-page_known.true),
-  full (goal.at.returns-then-not-lawful-page_known c).Start,
-)
+returns-then-not-lawful-page_known c =
+    let past = goal.at.returns-then-not-lawful-page_known c in (
+      each-failed c.loop-i.invariant no_page (omega arith)
+          (judged past.After-page_known ∙ c.if-not-lawful-page_known.true),
+      full past.Start,
+    )
 
 pub loop-i-preserved : goal.loop-i-preserved
-loop-i-preserved c = each-passed c.loop-i.invariant no_page (omega arith) (judged (goal.at.loop-i-preserved c).After-page_known ∙ c.if-not-lawful-page_known.false)
+loop-i-preserved c =
+    let past = goal.at.loop-i-preserved c in
+    each-passed c.loop-i.invariant no_page (omega arith)
+    (judged past.After-page_known ∙ c.if-not-lawful-page_known.false)
 
 pub returns : goal.returns
 returns c = (each-end c.loop-i.invariant (omega arith), full (goal.at.returns c).Start)

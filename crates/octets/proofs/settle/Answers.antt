@@ -25,30 +25,36 @@ pub byte_out-b-requires : goal.byte_out-b-requires
 byte_out-b-requires c = rw c.power.ensures (omega (arith, scale-fits c.args.j (omega arith)))
 
 pub returns-then-j-b : goal.returns-then-j-b
-returns-then-j-b c = let a = c.args in
+returns-then-j-b c =
+    let past = goal.at.returns-then-j-b c in
+    let a = c.args in
     let b = c.byte_out-b.result in (
       refl,
       omega arith,
       (λ k w s e g h. rw c.after_byte-coder.ensures
-          (settle-one a.next a.held a.j b (out (goal.at.returns-then-j-b c).After-byte_out-b) k w s e g h c.if-j-b.true)),
+          (settle-one a.next a.held a.j b (out past.After-byte_out-b) k w s e g h c.if-j-b.true)),
     )
 
 pub byte_out-d-requires : goal.byte_out-d-requires
-byte_out-d-requires c = let a = c.args in
+byte_out-d-requires c =
+    let past = goal.at.byte_out-d-requires c in
+    let a = c.args in
     let b = c.byte_out-b in
     let i = a.j - b.result.bits in
-    let h = short-next b.result.low a.j i b.result.bits (omega arith) (omega arith) (short (goal.at.byte_out-d-requires c).After-byte_out-b) in
+    let h = short-next b.result.low a.j i b.result.bits (omega arith) (omega arith) (short past.After-byte_out-b) in
     rw c.power-2.ensures (omega (arith, b.ensures.0.octet, scale-fits i (omega arith), h))
 
 pub returns : goal.returns
-returns c = let a = c.args in
+returns c =
+    let past = goal.at.returns c in
+    let a = c.args in
     let b = c.byte_out-b in
     let d = c.byte_out-d in
     let i = a.j - b.result.bits in (
       refl,
       omega arith,
       (λ k w s e g h. rw c.after_byte-coder-2.ensures
-          (settle-two a.next a.held a.j b.result (out (goal.at.returns c).After-byte_out-b) k w s e g h i d.result
-          (omega (arith, c.if-j-b.false)) (out₂ (goal.at.returns c).After-byte_out-d)
+          (settle-two a.next a.held a.j b.result (out past.After-byte_out-b) k w s e g h i d.result
+          (omega (arith, c.if-j-b.false)) (out₂ past.After-byte_out-d)
           (omega (arith, c.requires.1, b.ensures.0.seven, d.ensures.0.seven)))),
     )

@@ -44,7 +44,8 @@ whole c = c.lawful_desk-good.ensures.1
 asked : (c : After-early_refusal-early) →
     let a = c.args in
     c.early_refusal-early.result
-    ≡ early (lawful (desk_of (parts (goal.at.After-early_refusal-early c).Start))) (lawful_key a.ask.key) (within 1 a.ask.width max_width)
+    ≡ early (lawful (desk_of (parts (goal.at.After-early_refusal-early c).Start))) (lawful_key a.ask.key)
+    (within 1 a.ask.width max_width)
 asked c =
     c.early_refusal-early.ensures
     ∙ ap₂ (λ (g s : Bool). early g (lawful_key c.args.ask.key) s) c.lawful_desk-good.ensures.0
@@ -54,8 +55,10 @@ asked c =
 opened : (c : After-is_found) →
     is_found (page_found (desk_of (parts (goal.at.After-is_found c).Start)) c.args.ask.key) ≡ c.is_found.result
 opened c =
+    let past = goal.at.After-is_found c in
     let k = c.args.ask.key in
-    ap is_found (find-pages (parts (goal.at.After-is_found c).Start) (whole (goal.at.After-is_found c).After-early_refusal-early) (Used k) ∙ sym c.find_page.ensures.0)
+    ap is_found (find-pages (parts past.Start) (whole past.After-early_refusal-early) (Used k)
+    ∙ sym c.find_page.ensures.0)
     ∙ sym c.is_found.ensures
 
 goes_on : (c : After-find_page-2) → c.early_refusal-early.result ≡ 0
@@ -66,8 +69,11 @@ is-vacant : (c : After-find_page-2) →
 is-vacant c = opened (goal.at.After-find_page-2 c).After-is_found ∙ c.if-is_found.false
 
 -- ---- the slot that it takes
-finds-free : (c : After-find_page-2) → free_page_found (desk_of (parts (goal.at.After-find_page-2 c).Start)) ≡ c.find_page-2.result
-finds-free c = find-pages (parts (goal.at.After-find_page-2 c).Start) (whole (goal.at.After-find_page-2 c).After-early_refusal-early) Free ∙ sym c.find_page-2.ensures.0
+finds-free : (c : After-find_page-2) → free_page_found
+    (desk_of (parts (goal.at.After-find_page-2 c).Start)) ≡ c.find_page-2.result
+finds-free c =
+    let past = goal.at.After-find_page-2 c in
+    find-pages (parts past.Start) (whole past.After-early_refusal-early) Free ∙ sym c.find_page-2.ensures.0
 
 takes : (c : In-At) → free_page_found (desk_of (parts (goal.at.In-At c).Start)) ≡ At (slot c)
 takes c = finds-free (goal.at.In-At c).After-find_page-2 ∙ c.in-At.is
@@ -79,50 +85,71 @@ slot-within c = rw c.in-At.is at c.find_page-2.ensures.1
 finds-table : (c : After-find_place) →
     table_found (desk_of (parts (goal.at.After-find_place c).Start)) c.args.ask.key ≡ c.find_place.result
 finds-table c =
-    find-places (parts (goal.at.After-find_place c).Start) (whole (goal.at.After-find_place c).After-early_refusal-early) (Learned c.args.ask.key) ∙ sym c.find_place.ensures.0
+    let past = goal.at.After-find_place c in
+    find-places (parts past.Start) (whole past.After-early_refusal-early) (Learned c.args.ask.key)
+    ∙ sym c.find_place.ensures.0
 
 place-within : (c : In-At-find_place) → place c < max_places
 place-within c = rw c.in-At-find_place.is at c.find_place.ensures.1
 
 pub returns-then-early-ne0 : goal.returns-then-early-ne0
-returns-then-early-ne0 c = let n = c.if-early-ne0.true in
+returns-then-early-ne0 c =
+    let past = goal.at.returns-then-early-ne0 c in
+    let n = c.if-early-ne0.true in
     let a = c.args in
-    let p = parts (goal.at.returns-then-early-ne0 c).Start in
-    refuses p (whole (goal.at.returns-then-early-ne0 c).After-early_refusal-early) (opens a.ask) _ c.refused.result [] (open-early p a.ask _ (asked (goal.at.returns-then-early-ne0 c).After-early_refusal-early) n) n
+    let p = parts past.Start in
+    refuses p (whole past.After-early_refusal-early) (opens a.ask) _ c.refused.result []
+    (open-early p a.ask _ (asked past.After-early_refusal-early) n) n
     c.refused.ensures (nothing_lent _)
 
 pub returns-then-is_found : goal.returns-then-is_found
-returns-then-is_found c = let a = c.args in
-    let p = parts (goal.at.returns-then-is_found c).Start in
-    refuses p (whole (goal.at.returns-then-is_found c).After-early_refusal-early) (opens a.ask) 3 c.refused-then-is_found.result []
-    (open-opened p a.ask _ (asked (goal.at.returns-then-is_found c).After-early_refusal-early) c.if-early-ne0.false (opened (goal.at.returns-then-is_found c).After-is_found ∙ c.if-is_found.true)) (λ z. omega arith)
+returns-then-is_found c =
+    let past = goal.at.returns-then-is_found c in
+    let a = c.args in
+    let p = parts past.Start in
+    refuses p (whole past.After-early_refusal-early) (opens a.ask) 3 c.refused-then-is_found.result []
+    (open-opened p a.ask _ (asked past.After-early_refusal-early) c.if-early-ne0.false
+    (opened past.After-is_found ∙ c.if-is_found.true)) (λ z. omega arith)
     c.refused-then-is_found.ensures (nothing_lent 3)
 
 pub returns-in_default : goal.returns-in_default
-returns-in_default c = let a = c.args in
-    let p = parts (goal.at.returns-in_default c).Start in
-    refuses p (whole (goal.at.returns-in_default c).After-early_refusal-early) (opens a.ask) 4 c.refused-in_default.result []
-    (open-pages p a.ask _ (asked (goal.at.returns-in_default c).After-early_refusal-early) (goes_on (goal.at.returns-in_default c).After-find_page-2) (is-vacant (goal.at.returns-in_default c).After-find_page-2) (finds-free (goal.at.returns-in_default c).After-find_page-2 ∙ c.in_default.is))
+returns-in_default c =
+    let past = goal.at.returns-in_default c in
+    let a = c.args in
+    let p = parts past.Start in
+    refuses p (whole past.After-early_refusal-early) (opens a.ask) 4 c.refused-in_default.result []
+    (open-pages p a.ask _ (asked past.After-early_refusal-early) (goes_on past.After-find_page-2)
+    (is-vacant past.After-find_page-2) (finds-free past.After-find_page-2 ∙ c.in_default.is))
     (λ z. omega arith) c.refused-in_default.ensures (nothing_lent 4)
 
 pub open_new-requires : goal.open_new-requires
-open_new-requires c = (slot-within (goal.at.open_new-requires c).In-At, whole (goal.at.open_new-requires c).After-early_refusal-early)
+open_new-requires c =
+    let past = goal.at.open_new-requires c in
+    (slot-within past.In-At, whole past.After-early_refusal-early)
 
 pub returns-in_default-find_place : goal.returns-in_default-find_place
-returns-in_default-find_place c = record {
-  allowed = open-left (parts (goal.at.returns-in_default-find_place c).Start) c.args.ask _ (asked (goal.at.returns-in_default-find_place c).After-early_refusal-early) (goes_on (goal.at.returns-in_default-find_place c).After-find_page-2) (is-vacant (goal.at.returns-in_default-find_place c).After-find_page-2) _ (takes (goal.at.returns-in_default-find_place c).In-At) _
-      (finds-table (goal.at.returns-in_default-find_place c).After-find_place ∙ c.in_default-find_place.is) c.open_new.ensures.0;
-  whole = c.open_new.ensures.1;
-}
+returns-in_default-find_place c =
+    let past = goal.at.returns-in_default-find_place c in
+    record {
+      allowed = open-left (parts past.Start) c.args.ask _ (asked past.After-early_refusal-early)
+          (goes_on past.After-find_page-2) (is-vacant past.After-find_page-2) _ (takes past.In-At) _
+          (finds-table past.After-find_place ∙ c.in_default-find_place.is) c.open_new.ensures.0;
+      whole = c.open_new.ensures.1;
+    }
 
 pub put_page-next-requires : goal.put_page-next-requires
 put_page-next-requires c = (slot-within (goal.at.put_page-next-requires c).In-At, c.requires.0, c.requires.1)
 
 pub returns : goal.returns
 unfolding white
-returns c = let a = c.args in
+returns c =
+    let past = goal.at.returns c in
+    let a = c.args in
     let n = c.put_page-next in
-    open-taught (parts (goal.at.returns c).Start) a.ask _ (asked (goal.at.returns c).After-early_refusal-early) (goes_on (goal.at.returns c).After-find_page-2) (is-vacant (goal.at.returns c).After-find_page-2) (slot (goal.at.returns c).In-At) (takes (goal.at.returns c).In-At) (whole (goal.at.returns c).After-early_refusal-early) (place (goal.at.returns c).In-At-find_place)
-    c.done.result n.result _ _ (finds-table (goal.at.returns c).After-find_place ∙ c.in-At-find_place.is)
-    (page-as (ap (λ (x : PageLine). as_page x (get_or a.learned.now (place (goal.at.returns c).In-At-find_place) []) white) c.new_line.ensures)
+    open-taught (parts past.Start) a.ask _ (asked past.After-early_refusal-early) (goes_on past.After-find_page-2)
+    (is-vacant past.After-find_page-2) (slot past.In-At) (takes past.In-At) (whole past.After-early_refusal-early)
+    (place past.In-At-find_place)
+    c.done.result n.result _ _ (finds-table past.After-find_place ∙ c.in-At-find_place.is)
+    (page-as (ap (λ (x : PageLine). as_page x (get_or a.learned.now
+    (place past.In-At-find_place) []) white) c.new_line.ensures)
     n.ensures) c.done.ensures

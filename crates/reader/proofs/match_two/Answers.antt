@@ -2,7 +2,6 @@
 use mathlib.Core.Path.{◌≡◌, refl, sym, ◌∙◌}
 use native.Mathlib.Numerals.{add-one}
 use native.Mathlib.Omega.{arith}
-use borrow.Author.Tests.{not-true, not-false}
 use Rattle.engine.specs.Followed.{matches}
 use Rattle.engine.proofs.Matching.{with-true}
 use mathlib.Core.Bool.{true}
@@ -11,7 +10,7 @@ use Rattle.reader.proofs.match_two.Goals.{After-match_one-one}
 
 -- ---- all were the code's so far
 good : (c : After-match_one-one) → c.args.good ≡ true
-good c = not-false c.args.good c.if-not-good.false-raw
+good c = c.if-not-good.false
 
 -- ---- the answers
 pub returns-then-n-eq0 : goal.returns-then-n-eq0
@@ -19,11 +18,13 @@ unfolding matches
 returns-then-n-eq0 c = rw c.if-n-eq0.true (sym (with-true _))
 
 pub returns-then-not-good : goal.returns-then-not-good
-returns-then-not-good c = rw (not-true c.args.good c.if-not-good.true-raw) refl
+returns-then-not-good c = rw c.if-not-good.true refl
 
 pub returns-then-n-eq1 : goal.returns-then-n-eq1
 unfolding matches
-returns-then-n-eq1 c = rw (good (goal.at.returns-then-n-eq1 c).After-match_one-one, c.if-n-eq1.true) (c.match_one-one.ensures ∙ sym (with-true _))
+returns-then-n-eq1 c =
+    let past = goal.at.returns-then-n-eq1 c in
+    rw (good past.After-match_one-one, c.if-n-eq1.true) (c.match_one-one.ensures ∙ sym (with-true _))
 
 pub returns-then-one : goal.returns-then-one
 unfolding matches

@@ -67,7 +67,9 @@ pub overflow_add-reading : goal.overflow_add-reading
 overflow_add-reading c = omega (arith, placed (goal.at.overflow_add-reading c).After-finish-end)
 
 pub returns-then-as_long : goal.returns-then-as_long
-returns-then-as_long c = let a = c.args in
+returns-then-as_long c =
+    let past = goal.at.returns-then-as_long c in
+    let a = c.args in
     let s = c.row_bytes in
     let d = c.read_rows-done in
     let f = c.finish-end in
@@ -75,11 +77,13 @@ returns-then-as_long c = let a = c.args in
     rw s.ensures (read_done a.width a.rows a.table a.last a.code.now a.out.now d.result.last
     d.result.reading _ d.ensures (take f.result.count f.result.bytes) f.ensures.0
     z (d.result.reading.at + f.result.count)
-    (counted d.result.reading.at f.result.count _ (counts (goal.at.returns-then-as_long c).After-finish-end)) c.requires.2
-    (compared (goal.at.returns-then-as_long c).After-as_long true c.if-as_long.true))
+    (counted d.result.reading.at f.result.count _ (counts past.After-finish-end)) c.requires.2
+    (compared past.After-as_long true c.if-as_long.true))
 
 pub returns : goal.returns
-returns c = let a = c.args in
+returns c =
+    let past = goal.at.returns c in
+    let a = c.args in
     let s = c.row_bytes in
     let d = c.read_rows-done in
     let f = c.finish-end in
@@ -87,5 +91,5 @@ returns c = let a = c.args in
     rw c.not_read-2.ensures (read-damaged a.width a.rows a.table a.last a.code.now a.out.now
     d.result.last d.result.reading _ d.ensures (take f.result.count f.result.bytes) f.ensures.0
     z (d.result.reading.at + f.result.count)
-    (counted d.result.reading.at f.result.count _ (counts (goal.at.returns c).After-finish-end)) c.requires.2
-    (compared (goal.at.returns c).After-as_long false c.if-as_long.false) _ c.clear-2.ensures d.auto.out)
+    (counted d.result.reading.at f.result.count _ (counts past.After-finish-end)) c.requires.2
+    (compared past.After-as_long false c.if-as_long.false) _ c.clear-2.ensures d.auto.out)

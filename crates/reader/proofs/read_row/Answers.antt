@@ -165,21 +165,25 @@ pub bounds-table-cx : goal.bounds-table-cx
 bounds-table-cx c = let w = edge (goal.at.bounds-table-cx c).In-loop-x in omega arith
 
 pub read_pel-told-requires : goal.read_pel-told-requires
-read_pel-told-requires c = let i = c.loop-x.invariant.0 in
+read_pel-told-requires c =
+    let past = goal.at.read_pel-told-requires c in
+    let i = c.loop-x.invariant.0 in
     let p = c.requires in (
       i.0.done.coded.ready.0,
       i.0.done.coded.ready.1,
-      lawful (goal.at.read_pel-told-requires c).In-loop-x _,
-      omega (arith, (few (goal.at.read_pel-told-requires c).In-loop-x).0, c.loop-x-test.true, p.0, p.5),
+      lawful past.In-loop-x _,
+      omega (arith, (few past.In-loop-x).0, c.loop-x-test.true, p.0, p.5),
       i.1.within,
       i.1.near,
       i.1.small,
     )
 
 pub overflow_add-revisits : goal.overflow_add-revisits
-overflow_add-revisits c = let i = c.loop-x.invariant.0.0 in
+overflow_add-revisits c =
+    let past = goal.at.overflow_add-revisits c in
+    let i = c.loop-x.invariant.0.0 in
     let p = c.requires in
-    omega (arith, (few (goal.at.overflow_add-revisits c).In-loop-x).2, (few (goal.at.overflow_add-revisits c).In-loop-x).0, i.passed, p.0, p.5)
+    omega (arith, (few past.In-loop-x).2, (few past.In-loop-x).0, i.passed, p.0, p.5)
 
 pub bounds-table-cx-then-v : goal.bounds-table-cx-then-v
 bounds-table-cx-then-v c = let w = edge (goal.at.bounds-table-cx-then-v c).In-loop-x in omega arith
@@ -190,9 +194,11 @@ match_two-good-requires c = let p = c.requires in
     (n, omega (arith, (few (goal.at.match_two-good-requires c).In-loop-x).1, c.loop-x-test.true, n, p.0, p.6))
 
 pub overflow_add-at : goal.overflow_add-at
-overflow_add-at c = let i = c.loop-x.invariant.0.0 in
+overflow_add-at c =
+    let past = goal.at.overflow_add-at c in
+    let i = c.loop-x.invariant.0.0 in
     let p = c.requires in
-    omega (arith, (few (goal.at.overflow_add-at c).In-loop-x).1, i.passed, p.0, p.6, c.read_pel-told.ensures.pelled.few)
+    omega (arith, (few past.In-loop-x).1, i.passed, p.0, p.6, c.read_pel-told.ensures.pelled.few)
 
 pub slide-next-requires : goal.slide-next-requires
 slide-next-requires c = let p = c.requires in
@@ -270,7 +276,8 @@ loop-x-preserved c = let a = c.args in
     let reach : (m.end ≤ a.width) × Under above l.x m.end
     = elim c.if-starts_run.branch [
       | then-starts_run+else-n-ne0 w ↦
-          subst (λ (z : ℕ). (z ≤ a.width) × Under above l.x z) (sym w.end-is) (w.run_end-end.ensures.1, w.run_end-end.ensures.2)
+          subst (λ (z : ℕ). (z ≤ a.width) × Under above l.x z) (sym w.end-is)
+          (w.run_end-end.ensures.1, w.run_end-end.ensures.2)
       | else-starts_run w ↦
           subst (λ (z : ℕ). (z ≤ a.width) × Under above l.x z) (sym w.end-is) (l.invariant.1, l.invariant.2)
     ] in
@@ -301,7 +308,8 @@ returns c = let l = c.loop-x in
     rw c.bottom-bottom.ensures
     (record {
       done = read_down _ _ c.above-coder.ensures _ _ _ _ _ _ _ _ _ _ _ c.args.start.view _ _
-          (read_whole top_engine top_is_engine top_seven q_reader _ _ _ _ _ _ _ _ _ _ _ _ _ _ _ _ _ _ i.0 c.requires.2 w);
+          (read_whole top_engine top_is_engine top_seven q_reader _ _ _ _ _ _ _ _ _ _ _ _ _ _ _ _ _ _ i.0
+          c.requires.2 w);
       packed = subst (Row l.row) w i.0.packed;
       sight = i.1;
     })

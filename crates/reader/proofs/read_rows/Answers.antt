@@ -71,7 +71,9 @@ overflow_mul-y c = let q = c.requires in
     omega (arith, mul-le-mul_right m.result h, m.ensures, q.1)
 
 pub put_row-requires : goal.put_row-requires
-put_row-requires c = (omega (arith, c.row_bytes-bytes.ensures, c.requires.1), omega (arith, room (goal.at.put_row-requires c).In-loop-y, c.loop-y.invariant.1))
+put_row-requires c =
+    let past = goal.at.put_row-requires c in
+    (omega (arith, c.row_bytes-bytes.ensures, c.requires.1), omega (arith, room past.In-loop-y, c.loop-y.invariant.1))
 
 pub overflow_add-y : goal.overflow_add-y
 overflow_add-y c = omega (arith, c.loop-y-test.true, c.requires.2)

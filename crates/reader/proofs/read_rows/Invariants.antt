@@ -7,7 +7,8 @@ use Rattle.reader.proofs.read_rows.Given as goal
 
 abbrev pub invariant-loop-y : goal.invariant-loop-y
 invariant-loop-y l = (l.y ≤ l.rows) × (length l.out ≡ length l.initial.out) × (length l.above ≡ last_bytes)
-    × BandRead l.width l.initial.above l.code l.initial.reading.table.entries l.initial.out l.above l.reading l.out l.y
+    × BandRead l.width l.initial.above l.code l.initial.reading.table.entries l.initial.out l.above l.reading l.out
+    l.y
 
 abbrev pub decreases-loop-y : goal.decreases-loop-y
 decreases-loop-y l = l.rows - l.y

@@ -53,20 +53,27 @@ is-sized c = ap (λ (b : Bool). b && leb (length c.args.code.now) max_code) c.in
 there : (c : In-On) →
     StoodTo (desk_of (parts (goal.at.In-On c).Start)) c.args.ask.key (fits (goal.at.In-On c).Start) 2 (slot c)
 there c =
-    standing-to (parts (goal.at.In-On c).Start) (whole (goal.at.In-On c).After-page_to-stands) c.args.ask.key (fits (goal.at.In-On c).Start) 2 c.page_to-stands.result _ _
-    c.lawful_desk-good.ensures.0 (is-sized (goal.at.In-On c).After-page_to-stands) c.page_to-stands.ensures.0 _ c.in-On.is
+    let past = goal.at.In-On c in
+    standing-to (parts past.Start) (whole past.After-page_to-stands) c.args.ask.key
+    (fits past.Start) 2 c.page_to-stands.result _ _
+    c.lawful_desk-good.ensures.0 (is-sized past.After-page_to-stands) c.page_to-stands.ensures.0 _ c.in-On.is
 
 slot-within : (c : In-On) → slot c < max_pages
 slot-within c = rw c.in-On.is at c.page_to-stands.ensures.1
 
 opened : (c : In-On) → LawfulOpen (page_in (parts (goal.at.In-On c).Start) (slot c))
 opened c =
-    open_in (parts (goal.at.In-On c).Start) (whole (goal.at.In-On c).After-page_to-stands) c.args.ask.key (fits (goal.at.In-On c).Start) (slot c) (there c).stood
+    let past = goal.at.In-On c in
+    open_in (parts past.Start) (whole past.After-page_to-stands) c.args.ask.key (fits past.Start) (slot c)
+    (there c).stood
 
 met : (c : In-On) →
-    page_of (stand (desk_of (parts (goal.at.In-On c).Start)) c.args.ask.key) ≡ page_in (parts (goal.at.In-On c).Start) (slot c)
+    page_of (stand (desk_of (parts (goal.at.In-On c).Start)) c.args.ask.key) ≡ page_in
+    (parts (goal.at.In-On c).Start) (slot c)
 met c =
-    page-is (parts (goal.at.In-On c).Start) (whole (goal.at.In-On c).After-page_to-stands) c.args.ask.key (fits (goal.at.In-On c).Start) (slot c) (there c).stood
+    let past = goal.at.In-On c in
+    page-is (parts past.Start) (whole past.After-page_to-stands) c.args.ask.key (fits past.Start) (slot c)
+    (there c).stood
 
 ranged : (c : In-On) →
     let n = c.args.ask.rows in
@@ -77,13 +84,17 @@ ranged c =
 
 -- ---- the page
 pub returns-in_default : goal.returns-in_default
-returns-in_default c = let a = c.args in
-    let p = parts (goal.at.returns-in_default c).Start in
+returns-in_default c =
+    let past = goal.at.returns-in_default c in
+    let a = c.args in
+    let p = parts past.Start in
     let r = c.page_to-stands in
     let n = c.in_default.is in
-    let w = turned-to p (whole (goal.at.returns-in_default c).After-page_to-stands) a.ask.key (fits (goal.at.returns-in_default c).Start) 2 r.result _ _ c.lawful_desk-good.ensures.0
-    (is-sized (goal.at.returns-in_default c).After-page_to-stands) r.ensures.0 _ n in
-    turns-away p (whole (goal.at.returns-in_default c).After-page_to-stands) (reads a.ask a.code.now a.out.now) r.result _ c.turned_away.result _ n
+    let w = turned-to p (whole past.After-page_to-stands) a.ask.key
+    (fits past.Start) 2 r.result _ _ c.lawful_desk-good.ensures.0
+    (is-sized past.After-page_to-stands) r.ensures.0 _ n in
+    turns-away p (whole past.After-page_to-stands) (reads a.ask a.code.now a.out.now) r.result _ c.turned_away.result
+    _ n
     (read_number (desk_of p) a.ask a.code.now a.out.now ∙ w.1 _) w.0.0 c.turned_away.ensures
     (keeps _ a.out.now w.0)
 
@@ -101,34 +112,40 @@ pub bounds-rows-i : goal.bounds-rows-i
 bounds-rows-i c = slot-within (goal.at.bounds-rows-i c).In-On
 
 pub read_band-read-requires : goal.read_band-read-requires
-read_band-read-requires c = let h = opened (goal.at.read_band-read-requires c).In-On in
-    let r = ranged (goal.at.read_band-read-requires c).In-On in (h.some, h.small, r.0, r.1, h.table)
+read_band-read-requires c =
+    let past = goal.at.read_band-read-requires c in
+    let h = opened past.In-On in
+    let r = ranged past.In-On in (h.some, h.small, r.0, r.1, h.table)
 
 pub returns-then-not-read : goal.returns-then-not-read
-returns-then-not-read c = let a = c.args in
-    let p = parts (goal.at.returns-then-not-read c).Start in
-    let i = slot (goal.at.returns-then-not-read c).In-On in
-    let t = there (goal.at.returns-then-not-read c).In-On in
-    let m = met (goal.at.returns-then-not-read c).In-On in
+returns-then-not-read c =
+    let past = goal.at.returns-then-not-read c in
+    let a = c.args in
+    let p = parts past.Start in
+    let i = slot past.In-On in
+    let t = there past.In-On in
+    let m = met past.In-On in
     let r = c.read_band-read in
     let o = not-true r.result.room c.if-not-read.true in
-    refuses p (whole (goal.at.returns-then-not-read c).After-page_to-stands) (reads a.ask a.code.now a.out.now) 9 c.refused.result _
+    refuses p (whole past.After-page_to-stands) (reads a.ask a.code.now a.out.now) 9 c.refused.result _
     (read-room (desk_of p) a.ask a.code.now a.out.now i t (page_in p i) m r.result _ r.ensures o)
     (λ z. omega arith) c.refused.ensures
     (read-full (desk_of p) a.ask a.code.now a.out.now i t (page_in p i) m r.result _ r.ensures o
     ∙ clears 9 a.out.now refl)
 
 pub returns-then-not-read-2 : goal.returns-then-not-read-2
-returns-then-not-read-2 c = let a = c.args in
-    let p = parts (goal.at.returns-then-not-read-2 c).Start in
-    let i = slot (goal.at.returns-then-not-read-2 c).In-On in
-    let t = there (goal.at.returns-then-not-read-2 c).In-On in
-    let m = met (goal.at.returns-then-not-read-2 c).In-On in
+returns-then-not-read-2 c =
+    let past = goal.at.returns-then-not-read-2 c in
+    let a = c.args in
+    let p = parts past.Start in
+    let i = slot past.In-On in
+    let t = there past.In-On in
+    let m = met past.In-On in
     let r = c.read_band-read in
     let o = not-false r.result.room c.if-not-read.false in
     let e = not-true r.result.good c.if-not-read-2.true in
     let n = damage-is (marked a.code.now) in
-    refuses p (whole (goal.at.returns-then-not-read-2 c).After-page_to-stands) (reads a.ask a.code.now a.out.now) (damage (marked a.code.now))
+    refuses p (whole past.After-page_to-stands) (reads a.ask a.code.now a.out.now) (damage (marked a.code.now))
     c.refused-then-not-read-2.result _
     (read-damaged (desk_of p) a.ask a.code.now a.out.now i t (page_in p i) m r.result _ r.ensures o e)
     n.0 (c.refused-then-not-read-2.ensures ∙ ap (λ (k : ℕ). refused_by k a.book) c.fault.ensures)
@@ -139,11 +156,13 @@ pub put_page-next-requires : goal.put_page-next-requires
 put_page-next-requires c = (slot-within (goal.at.put_page-next-requires c).In-On, c.requires.0, c.requires.1)
 
 pub returns : goal.returns
-returns c = let a = c.args in
-    let p = parts (goal.at.returns c).Start in
-    let i = slot (goal.at.returns c).In-On in
-    let t = there (goal.at.returns c).In-On in
-    let m = met (goal.at.returns c).In-On in
+returns c =
+    let past = goal.at.returns c in
+    let a = c.args in
+    let p = parts past.Start in
+    let i = slot past.In-On in
+    let t = there past.In-On in
+    let m = met past.In-On in
     let r = c.read_band-read in
     let o = not-false r.result.room c.if-not-read.false in
     let e = not-false r.result.good c.if-not-read-2.false in
@@ -151,7 +170,7 @@ returns c = let a = c.args in
     let l = band (desk_of p) a.ask a.code.now a.out.now i t (page_in p i) m r.result _ r.ensures o e in
     let g = read-gave (desk_of p) a.ask a.code.now a.out.now i t (page_in p i) m r.result _ r.ensures
     o e in
-    band-done p (whole (goal.at.returns c).After-page_to-stands) a.ask.key (fits (goal.at.returns c).Start) i t.stood
+    band-done p (whole past.After-page_to-stands) a.ask.key (fits past.Start) i t.stood
     (reads a.ask a.code.now a.out.now) (band_of (page_in p i) a.ask.rows l) l a.out.now _
     c.done.result n.result _ _ refl
     (read-end (desk_of p) a.ask a.code.now a.out.now i t (page_in p i) m r.result _ r.ensures o e)

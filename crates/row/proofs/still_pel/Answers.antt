@@ -9,7 +9,8 @@ use mathlib.Core.Bool.{false}
 use Rattle.row.proofs.still_pel.Goals as goal
 
 pub still-next-requires : goal.still-next-requires
-still-next-requires c = let f = c.requires.2.rest.fit in (omega (arith, c.requires.1), omega (arith, f.narrow), low_fits _ f)
+still-next-requires c = let f = c.requires.2.rest.fit in
+    (omega (arith, c.requires.1), omega (arith, f.narrow), low_fits _ f)
 
 pub returns : goal.returns
 returns c = let a = c.args in

@@ -7,7 +7,9 @@ use Rattle.row.proofs.WrittenRow.{q_seven, RowAt}
 use Rattle.row.proofs.write_row.Given as goal
 
 abbrev pub invariant-loop-x : goal.invariant-loop-x
-invariant-loop-x l = RowAt q_engine q_is_engine q_seven l.width (pels_to l.above l.width) l.row l.initial.table.entries l.initial.coder l.initial.out l.initial.at l.initial.revisits
+invariant-loop-x l = RowAt q_engine q_is_engine q_seven l.width
+    (pels_to l.above l.width) l.row l.initial.table.entries l.initial.coder l.initial.out l.initial.at
+    l.initial.revisits
     l.table.entries l.coder l.window l.out l.at l.revisits l.x
     × Clear l.row (pels_to l.above l.width) l.width l.x l.end
 

@@ -56,7 +56,9 @@ advance-next-requires c = let p = c.requires in
     rw c.still-rest.ensures (p.4, p.5, omega (arith, p.6), rw c.pel-v.ensures.3 (doublings-few 12 _))
 
 pub returns-then-part-view : goal.returns-then-part-view
-returns-then-part-view c = let a = c.args in
+returns-then-part-view c =
+    let past = goal.at.returns-then-part-view c in
+    let a = c.args in
     let q = c.row_of-q.ensures in
     let v = rw q at c.pel-v.ensures in
     let s = c.still-rest in
@@ -66,7 +68,8 @@ returns-then-part-view c = let a = c.args in
     let d = c.advance-next in
     rw c.moved_pel-pel.ensures
     (told_moved a.coder a.view a.code.now a.e true _ (moved_pel c.pel-v.result n.result) s.result
-    d.result _ (decide_true _ (sight_of a.view w a.code.now) (enough (goal.at.returns-then-part-view c).Then-part-view)) c.pel_told-then-part-view.ensures.0
+    d.result _ (decide_true _ (sight_of a.view w a.code.now)
+    (enough past.Then-part-view)) c.pel_told-then-part-view.ensures.0
     (pelled-moved a.coder a.e true c.pel-v.result _ (omega (arith, q, c.if-q-coder.false)) v.0 v.1
     v.2 n.ensures) (ap (λ (u : View). sight_of u (w - row_of a.e) a.code.now) (sym r)) v.3 d.ensures.0
     d.ensures.1 d.ensures.2 d.ensures.3)
@@ -81,7 +84,9 @@ advance-next-requires-2 c = let p = c.requires in
     (p.4, p.5, p.6, rw c.pel-v-2.ensures.3 (doublings-few 12 _))
 
 pub returns : goal.returns
-returns c = let a = c.args in
+returns c =
+    let past = goal.at.returns c in
+    let a = c.args in
     let q = c.row_of-q.ensures in
     let v = rw q at c.pel-v-2.ensures in
     let n = c.next_entry-2 in
@@ -89,6 +94,6 @@ returns c = let a = c.args in
     let d = c.advance-next-2 in
     rw c.moved_pel-pel-2.ensures
     (told_moved a.coder a.view a.code.now a.e false _ (moved_pel c.pel-v-2.result n.result) a.view
-    d.result _ (decide-false _ (sight_of a.view w a.code.now) (short (goal.at.returns c).Else-part-view)) c.pel_told-2.ensures.0
+    d.result _ (decide-false _ (sight_of a.view w a.code.now) (short past.Else-part-view)) c.pel_told-2.ensures.0
     (pelled-moved a.coder a.e false c.pel-v-2.result _ (omega (arith, (row_sized a.e).small)) v.0 v.1
     v.2 n.ensures) refl v.3 d.ensures.0 d.ensures.1 d.ensures.2 d.ensures.3)

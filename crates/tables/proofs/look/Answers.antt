@@ -32,7 +32,8 @@ whole c = c.lawful_desk-good.ensures.1
 
 -- ---- the first tests, of this desk and key
 asked : (c : After-early_refusal-early) →
-    c.early_refusal-early.result ≡ early (lawful (desk_of (parts (goal.at.After-early_refusal-early c).Start))) (lawful_key c.args.key) true
+    c.early_refusal-early.result ≡ early (lawful (desk_of (parts (goal.at.After-early_refusal-early c).Start)))
+    (lawful_key c.args.key) true
 asked c =
     c.early_refusal-early.ensures
     ∙ ap (λ (g : Bool). early g (lawful_key c.args.key) true) c.lawful_desk-good.ensures.0
@@ -41,7 +42,9 @@ asked c =
 finds-table : (c : After-find_place) →
     table_found (desk_of (parts (goal.at.After-find_place c).Start)) c.args.key ≡ c.find_place.result
 finds-table c =
-    find-places (parts (goal.at.After-find_place c).Start) (whole (goal.at.After-find_place c).After-early_refusal-early) (Learned c.args.key) ∙ sym c.find_place.ensures.0
+    let past = goal.at.After-find_place c in
+    find-places (parts past.Start) (whole past.After-early_refusal-early) (Learned c.args.key)
+    ∙ sym c.find_place.ensures.0
 
 is-taught : (c : In-At) →
     table_found (desk_of (parts (goal.at.In-At c).Start)) c.args.key ≡ At (place c)
@@ -51,33 +54,44 @@ place-within : (c : In-At) → place c < max_places
 place-within c = rw c.in-At.is at c.find_place.ensures.1
 
 pub returns-then-early-ne0 : goal.returns-then-early-ne0
-returns-then-early-ne0 c = let n = c.if-early-ne0.true in
+returns-then-early-ne0 c =
+    let past = goal.at.returns-then-early-ne0 c in
+    let n = c.if-early-ne0.true in
     let a = c.args in
-    let p = parts (goal.at.returns-then-early-ne0 c).Start in
-    refuses p (whole (goal.at.returns-then-early-ne0 c).After-early_refusal-early) (looks a.key a.out.now) _ c.refused.result _
-    (look-early (desk_of p) a.key _ (asked (goal.at.returns-then-early-ne0 c).After-early_refusal-early) a.out.now n) n c.refused.ensures
-    (keeps _ a.out.now (early-plain (desk_of p) a.key true _ (asked (goal.at.returns-then-early-ne0 c).After-early_refusal-early) n))
+    let p = parts past.Start in
+    refuses p (whole past.After-early_refusal-early) (looks a.key a.out.now) _ c.refused.result _
+    (look-early (desk_of p) a.key _ (asked past.After-early_refusal-early) a.out.now n) n c.refused.ensures
+    (keeps _ a.out.now (early-plain (desk_of p) a.key true _ (asked past.After-early_refusal-early) n))
 
 pub returns-in_default : goal.returns-in_default
-returns-in_default c = let a = c.args in
-    let p = parts (goal.at.returns-in_default c).Start in
-    refuses p (whole (goal.at.returns-in_default c).After-early_refusal-early) (looks a.key a.out.now) 11 c.refused-in_default.result _
-    (look-untaught (desk_of p) a.key _ (asked (goal.at.returns-in_default c).After-early_refusal-early) a.out.now c.if-early-ne0.false
-    (finds-table (goal.at.returns-in_default c).After-find_place ∙ c.in_default.is)) (λ z. omega arith) c.refused-in_default.ensures
+returns-in_default c =
+    let past = goal.at.returns-in_default c in
+    let a = c.args in
+    let p = parts past.Start in
+    refuses p (whole past.After-early_refusal-early) (looks a.key a.out.now) 11 c.refused-in_default.result _
+    (look-untaught (desk_of p) a.key _ (asked past.After-early_refusal-early) a.out.now c.if-early-ne0.false
+    (finds-table past.After-find_place ∙ c.in_default.is)) (λ z. omega arith) c.refused-in_default.ensures
     (keeps 11 a.out.now (λ z. omega arith, refl))
 
 -- ---- the lent output
 pub returns-then-out-lt-CONTEXTS : goal.returns-then-out-lt-CONTEXTS
-returns-then-out-lt-CONTEXTS c = let a = c.args in
-    let p = parts (goal.at.returns-then-out-lt-CONTEXTS c).Start in
-    refuses p (whole (goal.at.returns-then-out-lt-CONTEXTS c).After-early_refusal-early) (looks a.key a.out.now) 9 c.refused-then-out-lt-CONTEXTS.result _
-    (look-room (desk_of p) a.key _ (asked (goal.at.returns-then-out-lt-CONTEXTS c).After-early_refusal-early) a.out.now c.if-early-ne0.false _ (is-taught (goal.at.returns-then-out-lt-CONTEXTS c).In-At)
+returns-then-out-lt-CONTEXTS c =
+    let past = goal.at.returns-then-out-lt-CONTEXTS c in
+    let a = c.args in
+    let p = parts past.Start in
+    refuses p (whole past.After-early_refusal-early) (looks a.key a.out.now) 9 c.refused-then-out-lt-CONTEXTS.result _
+    (look-room (desk_of p) a.key _ (asked past.After-early_refusal-early) a.out.now c.if-early-ne0.false _
+    (is-taught past.In-At)
     (omega (arith, c.if-out-lt-CONTEXTS.true))) (λ z. omega arith) c.refused-then-out-lt-CONTEXTS.ensures
     (c.clear.ensures ∙ clears 9 a.out.now refl)
 
 pub returns : goal.returns
-returns c = let a = c.args in
-    let p = parts (goal.at.returns c).Start in
-    look-done p (whole (goal.at.returns c).After-early_refusal-early) a.key a.out.now _ c.done.result (place (goal.at.returns c).In-At) (is-taught (goal.at.returns c).In-At)
-    (look-end (desk_of p) a.key _ (asked (goal.at.returns c).After-early_refusal-early) a.out.now c.if-early-ne0.false _ (is-taught (goal.at.returns c).In-At)
+returns c =
+    let past = goal.at.returns c in
+    let a = c.args in
+    let p = parts past.Start in
+    look-done p (whole past.After-early_refusal-early) a.key a.out.now _ c.done.result (place past.In-At)
+    (is-taught past.In-At)
+    (look-end (desk_of p) a.key _ (asked past.After-early_refusal-early) a.out.now c.if-early-ne0.false _
+    (is-taught past.In-At)
     (omega (arith, c.if-out-lt-CONTEXTS.false))) c.done.ensures c.show_table.ensures

@@ -48,8 +48,10 @@ pub slice_bounds-row_padded-end : goal.slice_bounds-row_padded-end
 slice_bounds-row_padded-end c = let z = inside c in omega arith
 
 pub row_padded-requires : goal.row_padded-requires
-row_padded-requires c = let b = c.row_bytes-bytes in
-    let h = row-long c.args.pels.now b.result (c.loop-y.y * b.result) (inside (goal.at.row_padded-requires c).In-loop-y).0 in
+row_padded-requires c =
+    let past = goal.at.row_padded-requires c in
+    let b = c.row_bytes-bytes in
+    let h = row-long c.args.pels.now b.result (c.loop-y.y * b.result) (inside past.In-loop-y).0 in
     (omega arith, omega arith, h ∙ b.ensures)
 
 pub returns-then-not-row_padded : goal.returns-then-not-row_padded

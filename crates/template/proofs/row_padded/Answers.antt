@@ -5,7 +5,7 @@ use native.Mathlib.Omega.{arith}
 use Rattle.template.proofs.row_padded.Goals as goal
 
 pub overflow_cast-end : goal.overflow_cast-end
-overflow_cast-end c = omega (arith, c.shared_slice_known-1.given (c.row_bytes-bytes.result - 1))
+overflow_cast-end c = omega (arith, c.type_inv.row (c.row_bytes-bytes.result - 1))
 
 pub nonzero_rem-result : goal.nonzero_rem-result
 nonzero_rem-result c = let a = c.args in let b = c.row_bytes-bytes in let s =

@@ -141,14 +141,18 @@ pub bounds-table-cx : goal.bounds-table-cx
 bounds-table-cx c = let w = edge (goal.at.bounds-table-cx c).In-loop-x in omega arith
 
 pub put_pel-v-requires : goal.put_pel-v-requires
-put_pel-v-requires c = let i = c.loop-x.invariant.0 in
+put_pel-v-requires c =
+    let past = goal.at.put_pel-v-requires c in
+    let i = c.loop-x.invariant.0 in
     let p = c.requires in
     let r = i.done.coded.ready in
-    (r.0, r.1, lawful (goal.at.put_pel-v-requires c).In-loop-x _, omega (arith, (few (goal.at.put_pel-v-requires c).In-loop-x).0, c.loop-x-test.true, p.6, p.0))
+    (r.0, r.1, lawful past.In-loop-x _, omega (arith, (few past.In-loop-x).0, c.loop-x-test.true, p.6, p.0))
 
 pub overflow_add-revisits : goal.overflow_add-revisits
-overflow_add-revisits c = let p = c.requires in
-    omega (arith, (few (goal.at.overflow_add-revisits c).In-loop-x).2, (few (goal.at.overflow_add-revisits c).In-loop-x).0, c.loop-x-test.true, p.6, p.0)
+overflow_add-revisits c =
+    let past = goal.at.overflow_add-revisits c in
+    let p = c.requires in
+    omega (arith, (few past.In-loop-x).2, (few past.In-loop-x).0, c.loop-x-test.true, p.6, p.0)
 
 pub bounds-table-cx-then-v : goal.bounds-table-cx-then-v
 bounds-table-cx-then-v c = let w = edge (goal.at.bounds-table-cx-then-v c).In-loop-x in omega arith

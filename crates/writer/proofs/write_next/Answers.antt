@@ -67,15 +67,19 @@ pub slice_bounds-above-end : goal.slice_bounds-above-end
 slice_bounds-above-end c = let z = inside (goal.at.slice_bounds-above-end c).After-row_bytes-bytes in omega arith
 
 pub write_row-requires : goal.write_row-requires
-write_row-requires c = let q = c.requires in
-    (omega arith, (wide (goal.at.write_row-requires c).After-above-1).0, (wide (goal.at.write_row-requires c).After-above-1).1, omega arith, q.5, q.6, q.7, q.8, q.9)
+write_row-requires c =
+    let past = goal.at.write_row-requires c in
+    let q = c.requires in
+    (omega arith, (wide past.After-above-1).0, (wide past.After-above-1).1, omega arith, q.5, q.6, q.7, q.8, q.9)
 
 pub returns-then-top : goal.returns-then-top
 returns-then-top c = done (goal.at.returns-then-top c).After-above-1 _ _ c.write_row.ensures
 
 pub write_row-requires-2 : goal.write_row-requires-2
-write_row-requires-2 c = let q = c.requires in
-    (omega arith, (wide (goal.at.write_row-requires-2 c).After-above-1).0, (wide (goal.at.write_row-requires-2 c).After-above-1).1, omega arith, q.5, q.6, q.7, q.8, q.9)
+write_row-requires-2 c =
+    let past = goal.at.write_row-requires-2 c in
+    let q = c.requires in
+    (omega arith, (wide past.After-above-1).0, (wide past.After-above-1).1, omega arith, q.5, q.6, q.7, q.8, q.9)
 
 pub returns : goal.returns
 returns c = done (goal.at.returns c).After-above-1 _ _ c.write_row-2.ensures

@@ -43,7 +43,9 @@ kept : (c : At-loop-y) → let a = c.args in let l = c.loop-y in
     BandAt a.width a.last a.pels.now a.table.entries a.out.now
     (row_at a.width a.pels.now (l.y - 1)) l.run.table.entries l.run.coder l.out l.run.at
     l.run.revisits l.y
-kept c = let a = c.args in c.loop-y.invariant.3 a.last a.table.entries a.out.now (begun (goal.at.At-loop-y c).After-write_first-run)
+kept c =
+    let past = goal.at.At-loop-y c in
+    let a = c.args in c.loop-y.invariant.3 a.last a.table.entries a.out.now (begun past.After-write_first-run)
 
 -- ---- the answers
 pub row_bytes-bytes-requires : goal.row_bytes-bytes-requires
@@ -53,16 +55,20 @@ pub start-coder-requires : goal.start-coder-requires
 start-coder-requires c = tt
 
 pub slice_bounds-write_first-end : goal.slice_bounds-write_first-end
-slice_bounds-write_first-end c = sym (length-take-le _ _ (whole (goal.at.slice_bounds-write_first-end c).After-row_bytes-bytes))
+slice_bounds-write_first-end c =
+    let past = goal.at.slice_bounds-write_first-end c in
+    sym (length-take-le _ _ (whole past.After-row_bytes-bytes))
 
 pub write_first-run-requires : goal.write_first-run-requires
-write_first-run-requires c = let a = c.args in
+write_first-run-requires c =
+    let past = goal.at.write_first-run-requires c in
+    let a = c.args in
     let q = c.requires in
     let m = c.row_bytes-bytes in
     let k = c.start-coder in
     let n : length a.last ≡ last_bytes = search rules in (
       q.1,
-      rw (length-take-le m.result a.pels.now (whole (goal.at.write_first-run-requires c).After-row_bytes-bytes)) (omega (arith, m.ensures)),
+      rw (length-take-le m.result a.pels.now (whole past.After-row_bytes-bytes)) (omega (arith, m.ensures)),
       omega (arith, q.1),
       q.0,
       q.5,

@@ -38,7 +38,9 @@ pub overflow_mul-low : goal.overflow_mul-low
 overflow_mul-low c = omega (arith, small c)
 
 pub byte_out-b-requires : goal.byte_out-b-requires
-byte_out-b-requires c = ((ending (goal.at.byte_out-b-requires c).At-loop-left).rest.fit.octet, omega arith, omega arith, omega (arith, small c))
+byte_out-b-requires c =
+    let past = goal.at.byte_out-b-requires c in
+    ((ending past.At-loop-left).rest.fit.octet, omega arith, omega arith, omega (arith, small c))
 
 pub bounds-bytes-n : goal.bounds-bytes-n
 bounds-bytes-n c = omega (arith, (ending (goal.at.bounds-bytes-n c).At-loop-left).fuel)
@@ -83,7 +85,9 @@ pub following-requires : goal.following-requires
 following-requires c = tt
 
 pub overflow_add-result-2 : goal.overflow_add-result-2
-overflow_add-result-2 c = omega (arith, (ending (goal.at.overflow_add-result-2 c).At-loop-left).fuel, c.following.ensures.1)
+overflow_add-result-2 c =
+    let past = goal.at.overflow_add-result-2 c in
+    omega (arith, (ending past.At-loop-left).fuel, c.following.ensures.1)
 
 pub returns : goal.returns
 returns c = let e = ending (goal.at.returns c).At-loop-left in

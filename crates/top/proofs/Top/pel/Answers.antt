@@ -32,9 +32,11 @@ settled : (c : After-settle-p) → let a = c.args in
     pel (decision a.q a.expected) (lift (bottom_of a.self) [])
     ≡ lift c.settle-p.result.coder (settled_of c.settle-p.result)
 settled c =
+    let past = goal.at.After-settle-p c in
     let a = c.args in
     top-bytes a.self a.q a.expected c.requires.0 c.requires.2 c.requires.3 c.grow-v.result.coder
-    c.grow-v.result.shifts (next (goal.at.After-settle-p c).After-grow-v) (many (goal.at.After-settle-p c).After-grow-v) c.settle-p.result (omega (arith, c.if-k-until.false))
+    c.grow-v.result.shifts (next past.After-grow-v) (many past.After-grow-v) c.settle-p.result
+    (omega (arith, c.if-k-until.false))
     c.settle-p.ensures.2
 
 -- ---- the answers
@@ -50,30 +52,38 @@ grow-v-requires c = let a = c.args in
     (f.some, f.small, p.ensures.1, omega (arith, t, p.ensures.2), f.count)
 
 pub returns-then-k-until : goal.returns-then-k-until
-returns-then-k-until c = let a = c.args in
+returns-then-k-until c =
+    let past = goal.at.returns-then-k-until c in
+    let a = c.args in
     rw c.none_settled.ensures (
       top-few a.self a.q a.expected c.requires.0 c.requires.2 c.requires.3 c.grow-v.result.coder
-          c.grow-v.result.shifts (next (goal.at.returns-then-k-until c).After-grow-v) (many (goal.at.returns-then-k-until c).After-grow-v) c.if-k-until.true,
+          c.grow-v.result.shifts (next past.After-grow-v) (many past.After-grow-v) c.if-k-until.true,
       c.grow-v.ensures.1,
       omega arith,
-      many (goal.at.returns-then-k-until c).After-grow-v,
+      many past.After-grow-v,
     )
 
 pub settle-p-requires : goal.settle-p-requires
-settle-p-requires c = let a = c.args in
+settle-p-requires c =
+    let past = goal.at.settle-p-requires c in
+    let a = c.args in
     settle-fits a.self a.q a.expected c.requires.0 c.requires.2 c.requires.3 c.grow-v.result.coder
-    c.grow-v.result.shifts (next (goal.at.settle-p-requires c).After-grow-v) (many (goal.at.settle-p-requires c).After-grow-v) (omega (arith, c.if-k-until.false))
+    c.grow-v.result.shifts (next past.After-grow-v) (many past.After-grow-v) (omega (arith, c.if-k-until.false))
 
 pub above-coder-requires : goal.above-coder-requires
-above-coder-requires c = let a = c.args in
-    above-fits a.self a.q a.expected c.requires.0 c.requires.2 c.requires.3 _ _ (settled (goal.at.above-coder-requires c).After-settle-p)
+above-coder-requires c =
+    let past = goal.at.above-coder-requires c in
+    let a = c.args in
+    above-fits a.self a.q a.expected c.requires.0 c.requires.2 c.requires.3 _ _ (settled past.After-settle-p)
 
 pub returns : goal.returns
-returns c = let p = c.settle-p in
+returns c =
+    let past = goal.at.returns c in
+    let p = c.settle-p in
     rw c.above-coder.ensures (
-      settled (goal.at.returns c).After-settle-p
+      settled past.After-settle-p
           ∙ ap (λ (v : Coder). lift v (settled_of p.result)) (sym (above-bottom p.result.coder)),
       above_holds p.result.coder,
       p.ensures.1,
-      many (goal.at.returns c).After-grow-v,
+      many past.After-grow-v,
     )
