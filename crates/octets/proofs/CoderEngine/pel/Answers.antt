@@ -2,7 +2,7 @@
 use mathlib.Core.Path.{refl, ◌∙◌}
 use native.Mathlib.Omega.{arith}
 use Rattle.octets.proofs.OnePel.{low_fits, pel-few, pel-bytes, split, left_over}
-use Rattle.octets.proofs.Coder.pel.Goals as goal
+use Rattle.octets.proofs.CoderEngine.pel.Goals as goal
 
 pub code-v-requires : goal.code-v-requires
 code-v-requires c = let f = c.requires.0 in omega (
@@ -17,10 +17,10 @@ pub returns-then-k-until : goal.returns-then-k-until
 returns-then-k-until c = let a = c.args in
     let v = c.code-v in
     let h = rw v.ensures.1 at c.if-k-until.true in
-    rw (c.none_settled.ensures, v.ensures.0, v.ensures.1) (
+    rw (v.ensures.0, v.ensures.1) (
       pel-few a.self a.q a.expected c.requires.0 (omega arith)
           (omega arith) h,
-      omega arith,
+      tt,
       refl,
     )
 
@@ -44,10 +44,10 @@ returns c = let a = c.args in
     let h = rw v.ensures.1 at c.if-k-until.false in
     let s = split a.self a.q a.expected c.requires.0 (omega arith)
     (omega arith) h in
-    let t = rw (v.ensures.0, v.ensures.1) at c.settle.ensures.2 in (
+    let t = rw (v.ensures.0, v.ensures.1) at c.settle.ensures.1 in (
       pel-bytes a.self a.q a.expected c.requires.0 (omega arith)
           (omega arith) h ∙ t _ _ _ s.low
           s.width s.count,
-      c.settle.ensures.1,
+      tt,
       c.settle.ensures.0 ∙ v.ensures.1,
     )
