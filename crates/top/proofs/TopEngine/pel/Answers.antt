@@ -7,17 +7,17 @@ use Rattle.octets.specs.declared.Coder.{Coder}
 use Rattle.octets.specs.Octets.{pel}
 use Rattle.octets.specs.Lift.{lift, settled_of}
 use Rattle.top.specs.Top.{bottom_of, within}
-use Rattle.top.proofs.Moved.{above-bottom, above_holds}
+use Rattle.top.specs.TopStills.{above-bottom, above_holds}
 use Rattle.top.proofs.Pels.{next-coded, top-fits, grow-fits, above-fits, top-few, settle-fits, top-bytes}
-use Rattle.top.proofs.Top.pel.Goals as goal
-use Rattle.top.proofs.Top.pel.Goals.{After-grow-v, After-settle-p}
+use Rattle.top.proofs.TopEngine.pel.Goals as goal
+use Rattle.top.proofs.TopEngine.pel.Goals.{After-grow-v, After-settle-p}
 
 -- ---- after the shifts
 next : (c : After-grow-v) → let a = c.args in
     bottom_of c.grow-v.result.coder ≡ within (coded (decision a.q a.expected) (bottom_of a.self).interval)
     a.self
 next c =
-    let p = c.part-part in
+    let p = c.part in
     next-coded c.args.self p.result c.grow-v.result.coder _ p.ensures.0 c.grow-v.ensures.0
 
 many : (c : After-grow-v) → let a = c.args in
@@ -25,7 +25,7 @@ many : (c : After-grow-v) → let a = c.args in
     ≡ doublings 12 (part_of (decision a.q a.expected) (bottom_of a.self).interval).width
 many c =
     c.grow-v.ensures.2
-    ∙ ap (λ (v : Coder). doublings 12 v.interval.width) c.part-part.ensures.0
+    ∙ ap (λ (v : Coder). doublings 12 v.interval.width) c.part.ensures.0
 
 -- after the bytes
 settled : (c : After-settle-p) → let a = c.args in
@@ -37,15 +37,15 @@ settled c =
     top-bytes a.self a.q a.expected c.requires.0 c.requires.2 c.requires.3 c.grow-v.result.coder
     c.grow-v.result.shifts (next past.After-grow-v) (many past.After-grow-v) c.settle-p.result
     (omega (arith, c.if-k-until.false))
-    c.settle-p.ensures.2
+    c.settle-p.ensures.1
 
 -- ---- the answers
-pub part-part-requires : goal.part-part-requires
-part-part-requires c = (omega (arith, c.requires.0.wide, c.requires.3), c.requires.1)
+pub part-requires : goal.part-requires
+part-requires c = (omega (arith, c.requires.0.wide, c.requires.3), c.requires.1)
 
 pub grow-v-requires : goal.grow-v-requires
 grow-v-requires c = let a = c.args in
-    let p = c.part-part in
+    let p = c.part in
     let f = grow-fits a.self a.q a.expected c.requires.0 c.requires.2 c.requires.3 c.requires.4 p.result
     p.ensures.0 in
     let t = top-fits a.self c.requires.0 c.requires.1 in
@@ -54,12 +54,10 @@ grow-v-requires c = let a = c.args in
 pub returns-then-k-until : goal.returns-then-k-until
 returns-then-k-until c =
     let past = goal.at.returns-then-k-until c in
-    let a = c.args in
-    rw c.none_settled.ensures (
+    let a = c.args in (
       top-few a.self a.q a.expected c.requires.0 c.requires.2 c.requires.3 c.grow-v.result.coder
           c.grow-v.result.shifts (next past.After-grow-v) (many past.After-grow-v) c.if-k-until.true,
       c.grow-v.ensures.1,
-      omega arith,
       many past.After-grow-v,
     )
 
@@ -70,9 +68,9 @@ settle-p-requires c =
     settle-fits a.self a.q a.expected c.requires.0 c.requires.2 c.requires.3 c.grow-v.result.coder
     c.grow-v.result.shifts (next past.After-grow-v) (many past.After-grow-v) (omega (arith, c.if-k-until.false))
 
-pub above-coder-requires : goal.above-coder-requires
-above-coder-requires c =
-    let past = goal.at.above-coder-requires c in
+pub above-requires : goal.above-requires
+above-requires c =
+    let past = goal.at.above-requires c in
     let a = c.args in
     above-fits a.self a.q a.expected c.requires.0 c.requires.2 c.requires.3 _ _ (settled past.After-settle-p)
 
@@ -80,10 +78,9 @@ pub returns : goal.returns
 returns c =
     let past = goal.at.returns c in
     let p = c.settle-p in
-    rw c.above-coder.ensures (
+    rw c.above.ensures (
       settled past.After-settle-p
           ∙ ap (λ (v : Coder). lift v (settled_of p.result)) (sym (above-bottom p.result.coder)),
       above_holds p.result.coder,
-      p.ensures.1,
       many past.After-grow-v,
     )

@@ -1,9 +1,9 @@
 -- The string at the top and the string at the bottom are one coder. Assumes nothing.
-use mathlib.Core.Path.{◌≡◌}
-use Prim.Native.Nat.{ℕ, ◌+◌, ◌-◌, ◌≤◌}
-use native.Mathlib.Omega.{arith}
+use Rattle.std.specs.Prelude.{◌≡◌, ℕ, ◌+◌, ◌-◌, ◌≤◌, refl}
+use Rattle.std.proofs.Common.{arith}
 use Rattle.octets.specs.declared.Coder.{Coder}
 use Rattle.octets.specs.Runs.{still_by}
+use Rattle.octets.specs.Stills.{Stills}
 use Rattle.top.specs.declared.Top.{Top}
 use Rattle.top.specs.Top.{bottom_of, above_of, narrowed}
 
@@ -60,3 +60,15 @@ narrowed-more m n s t e = λ i. record {
   where
     width : (x : ℕ) → x - m - n ≡ x - s
     width x = omega arith
+
+pub top_stills : Stills bottom_of above_of (λ t. t.width ≤ t.top) (λ n t. n ≤ t.width) narrowed
+top_stills = record {
+  above = above-bottom;
+  above_sound = above_holds;
+  none = narrowed_none;
+  more = λ m n t. narrowed-more m n (m + n) t refl;
+  narrow = λ n t. refl;
+  can = λ n t h k l. h;
+  still = λ n t s h. narrowed-still n t h s;
+  sound = λ n t s h. omega (arith, s);
+}
