@@ -1,7 +1,7 @@
 -- The nearer of the two ends. Assumes nothing.
 use native.Mathlib.Omega.{arith}
 use Rattle.template.proofs.White.{white-part, under-part}
-use Rattle.template.proofs.run_to.Goals as goal
+use Rattle.template.proofs.Row.run_to.Goals as goal
 
 pub returns-then-y-over : goal.returns-then-y-over
 returns-then-y-over c = let w = c.white_to-y.ensures in
