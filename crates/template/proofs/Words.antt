@@ -1,17 +1,16 @@
 -- Eight bytes of a row as one number: its leading zeros are white pels. Assumes nothing.
 use mathlib.Core.Path.{◌≡◌, sym, ap, ◌∙◌, subst}
-use Prim.Native.Nat.{ℕ, suc, min, ◌+◌, ◌-◌, ◌*◌, ◌/◌, ◌%◌, ◌^◌, ◌≤◌, ◌<◌}
+use Prim.Native.Nat.{ℕ, suc, ◌+◌, ◌-◌, ◌*◌, ◌/◌, ◌%◌, ◌^◌, ◌≤◌, ◌<◌}
 use native.Mathlib.Nat.{pow-succ', div-eq_of_lt, mod-lt}
+use native.Mathlib.Numerals.{add-one}
 use native.Mathlib.Decide.{dec_lt}
 use native.Mathlib.Omega.{arith}
-use mathlib.Core.List.{List, ◌++◌}
-use lib.Bits.{bit_and, and_mask}
+use mathlib.Core.List.{List}
+use lib.Bits.{bit_and, bit_or, and_mask, or_shifted}
 use lib.Count.{count_leading_zeros, leading_length}
-use lib.ListN.{get_or, length, take, drop, replicate, get_or-append, get_or-eq_default}
-use lib.Seq.{length-take-le}
-use Rattle.std.proofs.lemmas.List.{get_or-take, get_or-drop, get_or-append_right, get_or-replicate}
+use lib.ListN.{get_or}
 use Rattle.std.specs.Int.{w64, from_be_bytes}
-use lib.Pow.{pow_pos, pow_mono, pow-add, shr-shr, high, low, field, mod-mod-pow, ones_split, ones_lt}
+use lib.Pow.{pow_pos, pow_mono, pow-add, shl_exact, shr-shr, high, low, field, mod-mod-pow, ones_split, ones_lt}
 use Rattle.template.specs.Pels.{pel_at}
 use Rattle.template.specs.Words.{Word}
 
@@ -80,19 +79,13 @@ word-bytes row bytes k w octet same e = subst (Word row k 8) (omega arith)
     more : (n w : ℕ) → n < 8 → Word row k n w → Word row k (suc n) (w * 2 ^ 8 + get_or bytes n 0)
     more n w h f = word_next row k n w (get_or bytes n 0) f (same n h) (rw (same n h) (octet (k + n)))
 
--- a row laid into eight zero bytes: past its end a byte is 0
-pub filled-up : (row : List ℕ) (n i : ℕ) → n ≡ min (length row) 8 → i < 8
-    → get_or (take n row ++ drop n (replicate 8 0)) i 0 ≡ get_or row i 0
-filled-up row n i e h = go (dec_lt i n)
-  where
-    long : length (take n row) ≡ n
-    long = length-take-le n row (omega arith)
-
-    go : Dec (i < n) → get_or (take n row ++ drop n (replicate 8 0)) i 0 ≡ get_or row i 0
-    go (yes l) = get_or-append (take n row) _ 0 i (rw long l) ∙ get_or-take n row i 0 l
-    go (no l) = get_or-append_right (take n row) (drop n (replicate 8 0)) n i 0 long (omega arith)
-        ∙ get_or-drop n (replicate 8 0) (i - n) 0 ∙ get_or-replicate 8 (n + (i - n)) 0 0 (omega arith)
-        ∙ sym (get_or-eq_default row 0 {n = i} (omega arith))
+-- as a program joins it
+pub word-join : (row : List ℕ) (k n w b : ℕ) → Word row k n w → n < 8 → b ≡ get_or row (k + n) 0 → b ≤ 255
+    → Word row k (n + 1)
+    (bit_or (w * 2 ^ 8 % 2 ^ 64) b)
+word-join row k n w b f h e o =
+    rw (add-one, shl_exact {a = w} (8 * n) 8 64 f.small (omega arith), or_shifted w 8 b (omega arith))
+    (word_next row k n w b f e o)
 
 -- ---- the number without its first o pels
 mask_is : (o : ℕ) → o ≤ 64 → 18446744073709551615 / 2 ^ o ≡ 2 ^ (64 - o) - 1

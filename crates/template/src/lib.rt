@@ -30,17 +30,19 @@ fn word_at(row: &[u8], k: usize) -> u64
     requires { k + 8 ≤ length row.now }
     ensures { Word row.now k 8 result }
 {
-    u64::from_be_bytes(*row[k..].first_chunk().unwrap())
+    u64::from_be_bytes(*row[k..k + 8].first_chunk().unwrap())
 }
 
 // The first eight bytes of a row that may have less: a missing byte counts as 0.
 fn short_word(row: &[u8]) -> u64
     ensures { Word row.now 0 8 result }
 {
-    let n = row.len().min(8);
-    let mut eight = [0u8; 8];
-    eight[..n].copy_from_slice(&row[..n]);
-    u64::from_be_bytes(eight)
+    let mut w: u64 = 0;
+    for i in 0..8 {
+        let b = row.get(i).copied().unwrap_or(0);
+        w = w << 8 | b as u64;
+    }
+    w
 }
 
 // Where the white pels from y on end, within the eight bytes from k on, which are w.
@@ -70,12 +72,16 @@ fn white_to(row: &[u8], bytes: usize, x: usize) -> usize
         return white_of(row, 0, short_word(row), x);
     }
     let last = bytes - 8;
-    let mut y = x;
-    for k in (x / 8..last).step_by(8) {
-        y = white_in(row, k, y);
-        if y < 8 * k + 64 {
+    let first = (x / 8).min(last);
+    let mut y = white_in(row, first, x);
+    for k in (first + 8..last).step_by(8) {
+        if y < 8 * k {
             return y;
         }
+        y = white_in(row, k, 8 * k);
+    }
+    if y < 8 * last || y == 8 * bytes {
+        return y;
     }
     white_in(row, last, y)
 }

@@ -1,7 +1,6 @@
 -- Eight bytes of the row. Assumes nothing.
-use Prim.Native.Nat.{◌-◌, ◌<◌}
+use Prim.Native.Nat.{◌+◌, ◌-◌, ◌<◌}
 use native.Mathlib.Omega.{arith}
-use lib.ListN.{length}
 use Rattle.std.proofs.lemmas.List.{get_or-take, get_or-drop}
 use Rattle.template.proofs.Words.{word-bytes}
 use Rattle.template.proofs.word_at.Goals as goal
@@ -10,5 +9,5 @@ pub returns : goal.returns
 returns c = let a = c.args in
     let first = rw c.unwrap.ensures at c.first_chunk.ensures.cases in
     word-bytes a.row.now c.unwrap.result.now a.k _ (λ i. omega (arith, c.type_inv.row i))
-    (λ i h. let room : i < length a.row.now - a.k = omega arith in
+    (λ i h. let room : i < a.k + 8 - a.k = omega arith in
     rw (first.same, get_or-take, get_or-take, get_or-drop)) c.from_be_bytes.ensures
