@@ -1,7 +1,7 @@
 -- The second engine is one, since with its string at the bottom it is the first; and bands written by both are the
 -- same. Assumes nothing.
 use mathlib.Core.Path.{◌≡◌, sym, ◌∙◌, subst₂}
-use Prim.Native.Nat.{ℕ}
+use Prim.Native.Nat.{ℕ, ◌≤◌}
 use mathlib.Core.List.{List, [], ◌++◌}
 use lib.ListN.{drop}
 use Rattle.coder.specs.Page.{Page}
@@ -13,36 +13,23 @@ use Rattle.octets.specs.Octets.{start}
 use Rattle.octets.specs.Lift.{lift}
 use Rattle.top.specs.declared.Top.{Top}
 use Rattle.top.specs.Top.{bottom_of, above_of}
-use Rattle.top.proofs.Moved.{above-bottom, above_holds}
+use Rattle.top.specs.TopStills.{above-bottom, above_holds}
 use Rattle.row.specs.QEngine.{q_engine}
 use Rattle.row.proofs.QEngine.{q_is_engine}
-use Rattle.top_row.specs.TopRow.{top_engine}
+use Rattle.row.specs.TopEngine.{top_engine}
+use Rattle.row.proofs.AnyEngine.{over_is_engine, over_seven, over-first}
+use Rattle.row.proofs.WrittenRow.{Seven}
 
-pub top_is_engine : IsEngine top_engine
-top_is_engine =
-    record {
-      puts = λ q e c d xs ys k. q_is_engine.puts q e (bottom_of c) (bottom_of d) xs ys k.0;
-      moves = λ q e c xs. q_is_engine.moves q e (bottom_of c) xs;
-      count = λ c xs. q_is_engine.count (bottom_of c) xs;
-      twelve = λ q e c d ys k. q_is_engine.twelve q e (bottom_of c) (bottom_of d) ys k.0;
-      counts = q_is_engine.counts;
-      ready = λ e b c d ys l r k. (q_is_engine.ready e b (bottom_of c) (bottom_of d) ys l r.0 k.0, k.1);
-      next = q_is_engine.next;
-      ends = λ c xs. q_is_engine.ends (bottom_of c) xs;
-      some = λ c. q_is_engine.some (bottom_of c);
-    }
+abbrev pub top_is_engine : IsEngine top_engine
+top_is_engine = over_is_engine bottom_of (λ t. t.width ≤ t.top)
+
+abbrev pub top_seven : Seven top_engine
+top_seven = over_seven bottom_of (λ t. t.width ≤ t.top)
 
 -- whatever the second engine codes, the first does, from the string moved down to the string moved down
 pub first-too : (width : ℕ) (m₀ m : Page) (t₀ t : Top) (n₀ n : ℕ) (ps xs : List ℕ)
     → Coded top_engine width m₀ t₀ n₀ ps m t n xs → Coded q_engine width m₀ (bottom_of t₀) n₀ ps m (bottom_of t) n xs
-first-too width m₀ m t₀ t n₀ n ps xs f =
-    record {
-      stage = f.stage;
-      few = f.few;
-      lawful = f.lawful;
-      ready = f.ready.0;
-      count = f.count;
-    }
+first-too = over-first bottom_of (λ t. t.width ≤ t.top)
 
 -- whatever the first engine codes, the second does, from the string moved up to the string moved up
 pub second-too : (width : ℕ) (m₀ m : Page) (c₀ c : Coder) (n₀ n : ℕ) (ps xs : List ℕ)
