@@ -3,7 +3,7 @@
 
 ghost use Rattle.std.specs.Prelude.{◌≡◌, ◌+◌, ◌*◌, ◌%◌, ◌≤◌, ◌<◌, ◌^◌, [], length, get_or};
 ghost use Rattle.limits.specs.Limits.{max_width, max_rows, last_bytes};
-ghost use Rattle.template.specs.Pels.{row_bytes, pel_at, pels_to, row_padded, band_padded};
+ghost use Rattle.template.specs.Pels.{row_bytes, pel_at, pels_to, row_at, row_padded, band_padded};
 ghost use Rattle.template.specs.Window.{Slid, parted};
 ghost use Rattle.template.specs.Words.{Word};
 ghost use Rattle.template.specs.White.{White, Under, Clear, white_window};
@@ -23,45 +23,6 @@ pub fn pel_at(row: &[u8], x: usize) -> u8
 {
     let b = row[x / 8];
     (b >> (7 - x % 8)) % 2
-}
-
-// The pel at x of a packed row of that width, and 0 past its right edge.
-pub fn edge_pel(row: &[u8], width: usize, x: usize) -> usize
-    requires { width ≤ 8 * length row.now }
-    ensures { (result ≡ get_or (pels_to row.now width) x 0) × (result ≤ 1) }
-{
-    if x < width {
-        return pel_at(row, x) as usize;
-    }
-    0
-}
-
-// The padding bits of a row are zero bits.
-pub fn row_padded(row: &[u8], width: usize) -> bool
-    requires { (1 ≤ width) × (width + 7 < 2 ^ 64) × (length row.now ≡ row_bytes width) }
-    ensures { result ≡ row_padded width row.now }
-{
-    let bytes = row_bytes(width);
-    let spare = 8 * bytes - width;
-    let end = row[bytes - 1] as usize;
-    end % (1 << spare) == 0
-}
-
-// And those of every row of a band.
-pub fn band_padded(pels: &[u8], width: usize, rows: usize) -> bool
-    requires { (1 ≤ width) × (width ≤ max_width) × (rows ≤ max_rows) × (length pels.now ≡ rows * row_bytes width) }
-    ensures { result ≡ band_padded width pels.now rows }
-{
-    let bytes = row_bytes(width);
-    let mut y: usize = 0;
-    while y < rows {
-        let from = y * bytes;
-        if !row_padded(&pels[from..from + bytes], width) {
-            return false;
-        }
-        y += 1;
-    }
-    true
 }
 
 // A byte more at the end of the number that n bytes from k on are.
@@ -157,33 +118,106 @@ fn white_to(row: &[u8], bytes: usize, x: usize) -> usize
     y
 }
 
-// Where the pels from x on cease to lie under white ones, up to two places to the right.
-pub fn under_to(above: &[u8], width: usize, x: usize) -> usize
-    requires { (width ≤ max_width) × (width ≤ 8 * length above.now) × (x < width) }
-    ensures { (x ≤ result) × (result ≤ width) × Under (pels_to above.now width) x result }
-{
-    let y = white_to(above, row_bytes(width), x);
-    if width <= y {
-        return width;
-    }
-    if y < x + 2 {
-        return x;
-    }
-    y - 2
+// A packed row and its width in pels.
+#[derive(Clone, Copy)]
+pub struct Row<'a> {
+    pub bytes: &'a [u8],
+    pub width: usize,
+    pub ghost fits: { width ≤ 8 * length bytes.now },
 }
 
-// Where the white pels under white ones end.
-pub fn run_to(row: &[u8], above: &[u8], width: usize, x: usize) -> usize
-    requires { (width ≤ max_width) × (width ≤ 8 * length row.now) × (width ≤ 8 * length above.now)
-        × (x < width) }
-    ensures { (x ≤ result) × Clear row.now (pels_to above.now width) width x result }
-{
-    let over = under_to(above, width, x);
-    let y = white_to(row, row_bytes(width), x);
-    if y < over {
-        return y;
+impl<'a> Row<'a> {
+    // The pel at x, and 0 past the right edge.
+    pub fn edge_pel(self, x: usize) -> usize
+        ensures { (result ≡ get_or (pels_to self.entry.bytes.now self.entry.width) x 0) × (result ≤ 1) }
+    {
+        if x < self.width {
+            return pel_at(self.bytes, x) as usize;
+        }
+        0
     }
-    over
+
+    // The padding bits are zero bits.
+    pub fn is_padded(self) -> bool
+        requires { (1 ≤ self.width) × (self.width + 7 < 2 ^ 64)
+            × (length self.bytes.now ≡ row_bytes self.width) }
+        ensures { result ≡ row_padded self.entry.width self.entry.bytes.now }
+    {
+        let bytes = row_bytes(self.width);
+        let spare = 8 * bytes - self.width;
+        let end = self.bytes[bytes - 1] as usize;
+        end % (1 << spare) == 0
+    }
+
+    // Where the pels from x on cease to lie under this row's white ones, up to two places to the right.
+    pub fn under_to(self, x: usize) -> usize
+        requires { (self.width ≤ max_width) × (x < self.width) }
+        ensures { (x ≤ result) × (result ≤ self.entry.width)
+            × Under (pels_to self.entry.bytes.now self.entry.width) x result }
+    {
+        let y = white_to(self.bytes, row_bytes(self.width), x);
+        if self.width <= y {
+            return self.width;
+        }
+        if y < x + 2 {
+            return x;
+        }
+        y - 2
+    }
+
+    // Where the white pels of the row below end that lie under this row's white ones.
+    pub fn run_to(self, row: &[u8], x: usize) -> usize
+        requires { (self.width ≤ max_width) × (self.width ≤ 8 * length row.now) × (x < self.width) }
+        ensures { (x ≤ result)
+            × Clear row.now (pels_to self.entry.bytes.now self.entry.width) self.entry.width x result }
+    {
+        let over = self.under_to(x);
+        let y = white_to(row, row_bytes(self.width), x);
+        if y < over {
+            return y;
+        }
+        over
+    }
+}
+
+// The packed rows of a band.
+#[derive(Clone, Copy)]
+pub struct Band<'a> {
+    pub pels: &'a [u8],
+    pub width: usize,
+    pub rows: usize,
+    pub ghost some: { 1 ≤ width },
+    pub ghost narrow: { width ≤ max_width },
+    pub ghost few: { rows ≤ max_rows },
+    pub ghost whole: { length pels.now ≡ rows * row_bytes width },
+}
+
+impl<'a> Band<'a> {
+    // The row y.
+    pub fn row(self, y: usize) -> Row<'a>
+        requires { y < self.rows }
+        ensures { (result.bytes.now ≡ row_at self.entry.width self.entry.pels.now y)
+            × (result.width ≡ self.entry.width) }
+    {
+        let bytes = row_bytes(self.width);
+        let from = y * bytes;
+        Row {
+            bytes: &self.pels[from..from + bytes],
+            width: self.width,
+        }
+    }
+
+    // The padding bits of every row are zero bits.
+    pub fn is_padded(self) -> bool
+        ensures { result ≡ band_padded self.entry.width self.entry.pels.now self.entry.rows }
+    {
+        for y in 0..self.rows {
+            if !self.row(y).is_padded() {
+                return false;
+            }
+        }
+        true
+    }
 }
 
 // What a pel's context is made of: the five pels of the row above, the two of this row.
@@ -195,13 +229,12 @@ pub struct Window {
 
 impl Window {
     // At the left edge.
-    pub fn start(above: &[u8], width: usize) -> Self
-        requires { width ≤ 8 * length above.now }
-        ensures { Slid (pels_to above.now width) [] 0 result }
+    pub fn start(above: Row) -> Self
+        ensures { Slid (pels_to above.entry.bytes.now above.entry.width) [] 0 result }
     {
-        let a = edge_pel(above, width, 2);
-        let b = edge_pel(above, width, 1);
-        let c = edge_pel(above, width, 0);
+        let a = above.edge_pel(2);
+        let b = above.edge_pel(1);
+        let c = above.edge_pel(0);
         Window {
             above: a + 2 * b + 4 * c,
             this: 0,
@@ -209,11 +242,11 @@ impl Window {
     }
 
     // At x, behind a white run.
-    pub fn white(above: &[u8], width: usize, x: usize) -> Self
-        requires { (width ≤ 8 * length above.now) × (x ≤ max_width) }
-        ensures { result ≡ white_window (pels_to above.now width) x }
+    pub fn white(above: Row, x: usize) -> Self
+        requires { x ≤ max_width }
+        ensures { result ≡ white_window (pels_to above.entry.bytes.now above.entry.width) x }
     {
-        let a = edge_pel(above, width, x + 2);
+        let a = above.edge_pel(x + 2);
         Window { above: a, this: 0 }
     }
 
@@ -236,13 +269,12 @@ impl Window {
     }
 
     // At x + 1, after the pel at x.
-    pub fn slide(self, above: &[u8], width: usize, x: usize, pel: u8) -> Self
-        requires { (width ≤ 8 * length above.now) × (x < max_width) × (pel ≤ 1) × (self.above < 32)
-            × (self.this < 4) }
-        ensures { (result.above ≡ (2 * self.above + get_or (pels_to above.now width) (x + 3) 0) % 32)
+    pub fn slide(self, above: Row, x: usize, pel: u8) -> Self
+        requires { (x < max_width) × (pel ≤ 1) × (self.above < 32) × (self.this < 4) }
+        ensures { (result.above ≡ (2 * self.above + get_or (pels_to above.entry.bytes.now above.entry.width) (x + 3) 0) % 32)
             × (result.this ≡ (2 * self.this + pel) % 4) }
     {
-        let a = edge_pel(above, width, x + 3);
+        let a = above.edge_pel(x + 3);
         let p = pel as usize;
         Window {
             above: (2 * self.above + a) % 32,
