@@ -25,53 +25,24 @@ pub fn pel_at(row: &[u8], x: usize) -> u8
     (b >> (7 - x % 8)) % 2
 }
 
-// A byte more at the end of the number that n bytes from k on are.
-fn join(row: &[u8], k: usize, n: usize, w: u64) -> u64
-    requires { (k + n < length row.now) × (n < 8) × Word row.now k n w }
-    ensures { Word row.now k (n + 1) result }
-{
-    let b = row[k + n] as u64;
-    w << 8 | b
-}
-
 // Eight bytes from k on as one number, the first on top: one read for the machine.
 fn word_at(row: &[u8], k: usize) -> u64
     requires { k + 8 ≤ length row.now }
     ensures { Word row.now k 8 result }
 {
-    let one = join(row, k, 0, 0);
-    let two = join(row, k, 1, one);
-    let three = join(row, k, 2, two);
-    let four = join(row, k, 3, three);
-    let five = join(row, k, 4, four);
-    let six = join(row, k, 5, five);
-    let seven = join(row, k, 6, six);
-    join(row, k, 7, seven)
+    u64::from_be_bytes(*row[k..k + 8].first_chunk().unwrap())
 }
 
-// The same at the end of a row, where a byte may be missing: it counts as 0.
-fn join_any(row: &[u8], k: usize, n: usize, w: u64) -> u64
-    requires { (k ≤ last_bytes) × (n < 8) × Word row.now k n w }
-    ensures { Word row.now k (n + 1) result }
-{
-    if k + n < row.len() {
-        return join(row, k, n, w);
-    }
-    w << 8
-}
-
-// The first eight bytes of a row that may have less.
+// The first eight bytes of a row that may have less: a missing byte counts as 0.
 fn short_word(row: &[u8]) -> u64
     ensures { Word row.now 0 8 result }
 {
-    let one = join_any(row, 0, 0, 0);
-    let two = join_any(row, 0, 1, one);
-    let three = join_any(row, 0, 2, two);
-    let four = join_any(row, 0, 3, three);
-    let five = join_any(row, 0, 4, four);
-    let six = join_any(row, 0, 5, five);
-    let seven = join_any(row, 0, 6, six);
-    join_any(row, 0, 7, seven)
+    let mut w: u64 = 0;
+    for i in 0..8 {
+        let b = row.get(i).copied().unwrap_or(0);
+        w = w << 8 | b as u64;
+    }
+    w
 }
 
 // Where the white pels from y on end, within the eight bytes from k on, which are w.
@@ -101,21 +72,18 @@ fn white_to(row: &[u8], bytes: usize, x: usize) -> usize
         return white_of(row, 0, short_word(row), x);
     }
     let last = bytes - 8;
-    let mut k = if x / 8 < last { x / 8 } else { last };
-    let mut y = white_in(row, k, x);
-    while k + 8 <= last {
-        if y != 8 * k + 64 {
+    let first = (x / 8).min(last);
+    let mut y = white_in(row, first, x);
+    for k in (first + 8..last).step_by(8) {
+        if y < 8 * k {
             return y;
         }
-        k += 8;
         y = white_in(row, k, 8 * k);
     }
-    if y == 8 * k + 64 {
-        if k < last {
-            return white_in(row, last, y);
-        }
+    if y < 8 * last || y == 8 * bytes {
+        return y;
     }
-    y
+    white_in(row, last, y)
 }
 
 // A packed row and its width in pels.
@@ -173,10 +141,7 @@ impl<'a> Row<'a> {
     {
         let over = self.under_to(x);
         let y = white_to(row, row_bytes(self.width), x);
-        if y < over {
-            return y;
-        }
-        over
+        y.min(over)
     }
 }
 
