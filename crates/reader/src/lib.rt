@@ -1,7 +1,7 @@
 // Bands read back: the reader is the writer, told each pel by the code.
 #![tactic(auto)]
 
-ghost use Rattle.std.specs.Prelude.{◌≡◌, false, ◌&&◌, [], ◌∷◌, ◌+◌, ◌-◌, ◌*◌, ◌%◌, ◌≤◌, ◌<◌, ◌^◌, eqb, length, take};
+ghost use Rattle.std.specs.Prelude.{◌≡◌, ◌&&◌, [], ◌∷◌, ◌+◌, ◌-◌, ◌*◌, ◌%◌, ◌≤◌, ◌<◌, ◌^◌, eqb, length, take};
 ghost use Rattle.limits.specs.Limits.{max_width, max_rows, farthest, max_shifts};
 ghost use Rattle.estimate.specs.Estimate.{LawfulTable};
 ghost use Rattle.template.specs.Pels.{row_bytes, pels_to};
@@ -11,7 +11,7 @@ ghost use Rattle.octets.specs.Lift.{lift};
 ghost use Rattle.engine.specs.Followed.{match_at, matches};
 ghost use Rattle.reader.specs.RowRead.{LineRead};
 ghost use Rattle.reader.specs.Reads.{BandRead};
-ghost use Rattle.reader.specs.Found.{not_read, BandFound};
+ghost use Rattle.reader.specs.Found.{BandFound};
 
 use estimate::Table;
 use limits::ROW;
@@ -114,6 +114,7 @@ pub fn read_row(code: &[u8], above: &[u8], width: usize, start: Progress) -> Lin
     let mut row = [0u8; ROW];
     let mut end: usize = 0;
     let mut x: usize = 0;
+    // No `for`: a run of still pels moves x by more than one.
     while x < width {
         let white = table.entries[0];
         if row::starts_run(white, cx, 0, width) {
@@ -149,31 +150,34 @@ pub fn read_row(code: &[u8], above: &[u8], width: usize, start: Progress) -> Lin
         row[j] = row[j] + pel_in_byte(p, x);
         x += 1;
     }
-    let bottom = coder.bottom();
     Line {
-        row: row,
+        row,
         reading: Progress {
-            coder: bottom,
-            table: table,
-            at: at,
-            revisits: revisits,
-            good: good,
-            view: view,
+            coder: coder.bottom(),
+            table,
+            at,
+            revisits,
+            good,
+            view,
         },
     }
 }
 
-// What reading a band gives: whether there was room, whether the code was good, the bytes of all rows, S, the pels
-// revisited, and the table and last row after it.
+// What reading a band gives: the bytes of all rows, S, the pels revisited, and the table and last row after it.
 #[derive(Clone, Copy)]
 pub struct Read {
-    pub room: bool,
-    pub good: bool,
     pub length: usize,
     pub shifts: u64,
     pub revisits: u64,
     pub table: Table,
     pub last: [u8; ROW],
+}
+
+// Why a band is not read: the buffer is too short for its rows, or no band was written as that code.
+#[derive(Clone, Copy)]
+pub enum Fault {
+    NoRoom,
+    Damaged,
 }
 
 // The rows of a band: where the reading stands, and the last of them.
@@ -198,41 +202,35 @@ pub fn read_rows(
         out.new rows }
 {
     let bytes = template::row_bytes(width);
-    let coder = Coder::start();
-    let view = View::start(code);
     let mut above = last;
     let mut reading = Progress {
-        coder: coder,
-        table: table,
+        coder: Coder::start(),
+        table,
         at: 0,
         revisits: 0,
         good: true,
-        view: view,
+        view: View::start(code),
     };
-    let mut y: usize = 0;
-    while y < rows {
+    for y in 0..rows {
         let line = read_row(code, &above, width, reading);
         above = line.row;
         reading = line.reading;
         store::put_row(out, y * bytes, above, bytes);
-        y += 1;
     }
     Rows {
-        reading: reading,
+        reading,
         last: above,
     }
 }
 
-// Whether the first n of the last bytes are the code's too.
-pub fn match_last(code: &[u8], at: usize, bytes: [u8; 6], n: usize, good: bool) -> bool
-    requires { (n ≤ 6) × (at + n ≤ farthest) }
-    ensures { result ≡ (good && matches code.now at (take n bytes)) }
+// Whether the last bytes are the code's too.
+pub fn match_last(code: &[u8], at: usize, bytes: &[u8], good: bool) -> bool
+    requires { at + length bytes.now ≤ farthest }
+    ensures { result ≡ (good && matches code.now at bytes.now) }
 {
     let mut same = good;
-    let mut i: usize = 0;
-    while i < n {
-        same = match_two(code, at + i, 1, bytes[i], 0, same);
-        i += 1;
+    for (i, b) in bytes.iter().enumerate() {
+        same = same && match_one(code, at + i, *b);
     }
     same
 }
@@ -241,22 +239,7 @@ pub fn match_last(code: &[u8], at: usize, bytes: [u8; 6], n: usize, good: bool) 
 pub fn as_long(same: bool, n: usize, len: usize) -> bool
     ensures { result ≡ (same && eqb n len) }
 {
-    if same { n == len } else { false }
-}
-
-// Nothing is read, for want of room or of a good code.
-fn not_read(room: bool, table: Table, last: [u8; ROW]) -> Read
-    ensures { result ≡ not_read room table last }
-{
-    Read {
-        room: room,
-        good: false,
-        length: 0,
-        shifts: 0,
-        revisits: 0,
-        table: table,
-        last: last,
-    }
+    same && n == len
 }
 
 // A band back into a lent buffer: its rows in front and the rest kept; all zero where there is no room, or where no
@@ -268,34 +251,29 @@ pub fn read_band(
     rows: usize,
     code: &[u8],
     out: &mut [u8],
-) -> Read
+) -> Result<Read, Fault>
     requires { (1 ≤ width) × (width ≤ max_width) × (1 ≤ rows) × (rows ≤ max_rows) × LawfulTable table.entries }
     ensures { BandFound width rows table last code.now out.old result out.new }
 {
     let length = rows * template::row_bytes(width);
     if out.len() < length {
         store::clear(out);
-        return not_read(false, table, last);
+        return Err(Fault::NoRoom);
     }
     let done = read_rows(table, last, width, rows, code, out);
     let reading = done.reading;
-    let coder = reading.coder;
-    let end = coder.finish();
-    let bytes = end.bytes;
-    let same = match_last(code, reading.at, bytes, end.count, reading.good);
-    if as_long(same, reading.at + end.count - 1, code.len()) {
-        let after = reading.table;
-        let row = done.last;
-        return Read {
-            room: true,
-            good: true,
-            length: length,
-            shifts: coder.interval.count,
-            revisits: reading.revisits,
-            table: after,
-            last: row,
-        };
+    let end = reading.coder.finish();
+    let same = match_last(code, reading.at, &end.bytes[..end.count], reading.good);
+    if !as_long(same, reading.at + end.count - 1, code.len()) {
+        store::clear(out);
+        return Err(Fault::Damaged);
     }
-    store::clear(out);
-    not_read(true, table, last)
+    let last = done.last;
+    Ok(Read {
+        length,
+        shifts: reading.coder.interval.count,
+        revisits: reading.revisits,
+        table: reading.table,
+        last,
+    })
 }

@@ -9,12 +9,12 @@ use mathlib.Core.List.{List, [], ◌++◌}
 use lib.ListN.{length, take, drop, length-append, length-take, length-drop}
 use lib.Dec.{leb}
 use Rattle.ground.proofs.Bools.{both}
+use Rattle.std.specs.Prelude.{Some, None}
 use Rattle.coder.specs.Page.{Page}
 use borrow.Author.Tests.{leb-true}
 use Rattle.engine.specs.Coded.{row_page, Stored}
 use Rattle.engine.proofs.Coded.{coded-revisits, stored-none, stored-append, stored-length}
 use Rattle.engine.proofs.Verdict as end
-use Rattle.estimate.specs.declared.Table.{Table}
 use Rattle.estimate.specs.Estimate.{LawfulTable}
 use Rattle.octets.specs.declared.Coder.{Coder}
 use Rattle.octets.specs.Octets.{Registers, start, finish, ended}
@@ -130,27 +130,25 @@ module _ (width rows : ℕ) (last band t₀ out₀ above t : List ℕ) (c : Code
     unfolding has_room
     room-is = rw (end-length, end_same)
 
-    pub with-room : (leb (n₁ - 1) (length out₁) && leb (n₁ - 1) max_code) ≡ true → (table : Table) (row : List ℕ)
+    pub with-room : (leb (n₁ - 1) (length out₁) && leb (n₁ - 1) max_code) ≡ true → (row : List ℕ)
         → row ≡ last_row width rows band
-        → (record {
-          room = true;
+        → (Some (record {
           length = n₁ - 1;
           shifts = c.interval.count;
           revisits = n;
           table = record { entries = t };
           last = row;
-        } ≡ wrote_answer W table last out₀) × (out₁ ≡ wrote_out W out₀)
+        }) ≡ wrote_answer W out₀) × (out₁ ≡ wrote_out W out₀)
     unfolding wrote_answer wrote_out
-    with-room h table row r =
+    with-room h row r =
         let k : has_room W.code out₀ ≡ true = room-is ∙ h in (
-          rw k (λ i. record {
-            room = true;
+          rw k (λ i. Some (record {
             length = end-length i;
             shifts = sym end-shifts i;
             revisits = sym end-revisits i;
             table = record { entries = sym end-table i };
             last = last-is r i;
-          }),
+          })),
           rw k (end-stored ∙ stores-fit out₀ all (subst (λ (x : ℕ). x ≤ length out₀) (end-length ∙ ap length end-code)
               (omega (arith, end_same, leb-true (n₁ - 1) (length out₁) (left-of h))))
               ∙ ap (λ (x : List ℕ). in_front x out₀) (sym end-code)),
@@ -162,12 +160,10 @@ module _ (width rows : ℕ) (last band t₀ out₀ above t : List ℕ) (c : Code
         left-of : (leb (n₁ - 1) (length out₁) && leb (n₁ - 1) max_code) ≡ true → leb (n₁ - 1) (length out₁) ≡ true
         left-of h = (both (leb (n₁ - 1) (length out₁)) (leb (n₁ - 1) max_code) h).0
 
-    pub without-room : (leb (n₁ - 1) (length out₁) && leb (n₁ - 1) max_code) ≡ false → (table : Table)
-        → (record { room = false; length = 0; shifts = 0; revisits = 0; table = table; last = last }
-        ≡ wrote_answer W table last out₀)
-        × (cleared out₁ ≡ wrote_out W out₀)
+    pub without-room : (leb (n₁ - 1) (length out₁) && leb (n₁ - 1) max_code) ≡ false
+        → (None ≡ wrote_answer W out₀) × (cleared out₁ ≡ wrote_out W out₀)
     unfolding wrote_answer wrote_out cleared
-    without-room h table = let k : has_room W.code out₀ ≡ false = room-is ∙ h in (rw k, rw (k, end_same))
+    without-room h = let k : has_room W.code out₀ ≡ false = room-is ∙ h in (rw k refl, rw (k, end_same))
 
 -- ---- the rows as parts of a band
 module _ (width : ℕ) (band : List ℕ) (bytes' : ℕ) (is : bytes' ≡ row_bytes width) where

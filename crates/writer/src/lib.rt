@@ -17,10 +17,9 @@ use limits::{MAX_CODE, ROW};
 use octets::Coder;
 use row::Run;
 
-// What writing a band gives: whether there was room, n, S, the pels revisited, and the table and last row after it.
+// What writing a band gives where there is room: n, S, the pels revisited, and the table and last row after it.
 #[derive(Clone, Copy)]
 pub struct Wrote {
-    pub room: bool,
     pub length: usize,
     pub shifts: u64,
     pub revisits: u64,
@@ -88,18 +87,15 @@ pub fn write_rows(
         result.revisits rows }
 {
     let bytes = template::row_bytes(width);
-    let coder = Coder::start();
     let begun = Run {
-        coder: coder,
-        table: table,
+        coder: Coder::start(),
+        table,
         at: 0,
         revisits: 0,
     };
     let mut run = write_first(&pels[..bytes], &last, width, begun, out, top);
-    let mut y: usize = 1;
-    while y < rows {
+    for y in 1..rows {
         run = write_next(pels, y, width, run, out, top);
-        y += 1;
     }
     run
 }
@@ -113,11 +109,7 @@ pub fn last_row(pels: &[u8], width: usize, rows: usize) -> [u8; ROW]
     let bytes = template::row_bytes(width);
     let from = (rows - 1) * bytes;
     let mut row = [0u8; ROW];
-    let mut i: usize = 0;
-    while i < bytes {
-        row[i] = pels[from + i];
-        i += 1;
-    }
+    row[..bytes].copy_from_slice(&pels[from..]);
     row
 }
 
@@ -125,7 +117,7 @@ pub fn last_row(pels: &[u8], width: usize, rows: usize) -> [u8; ROW]
 pub fn has_room(n: usize, len: usize) -> bool
     ensures { result ≡ (leb n len && leb n max_code) }
 {
-    if n <= len { n <= MAX_CODE } else { false }
+    n <= len && n <= MAX_CODE
 }
 
 // A band into a lent buffer, by the second engine or the first: its code in front and the rest kept, or all zero where
@@ -138,39 +130,28 @@ pub fn write_by(
     pels: &[u8],
     out: &mut [u8],
     top: bool,
-) -> Wrote
+) -> Option<Wrote>
     requires { (1 ≤ width) × (width ≤ max_width) × (1 ≤ rows) × (rows ≤ max_rows)
         × (length pels.now ≡ rows * row_bytes width)
         × LawfulTable table.entries }
     ensures { BandWrote width rows table last pels.now out.old result out.new }
 {
     let run = write_rows(pels, last, width, rows, table, out, top);
-    let coder = run.coder;
-    let shifts = coder.interval.count;
-    let end = coder.finish();
+    let shifts = run.coder.interval.count;
+    let end = run.coder.finish();
     let bytes = end.bytes;
     let n = store::put_last(out, run.at, bytes, end.count) - 1;
-    if has_room(n, out.len()) {
-        let after = run.table;
-        let row = last_row(pels, width, rows);
-        return Wrote {
-            room: true,
-            length: n,
-            shifts: shifts,
-            revisits: run.revisits,
-            table: after,
-            last: row,
-        };
+    if !has_room(n, out.len()) {
+        store::clear(out);
+        return None;
     }
-    store::clear(out);
-    Wrote {
-        room: false,
-        length: 0,
-        shifts: 0,
-        revisits: 0,
-        table: table,
-        last: last,
-    }
+    Some(Wrote {
+        length: n,
+        shifts,
+        revisits: run.revisits,
+        table: run.table,
+        last: last_row(pels, width, rows),
+    })
 }
 
 // The same by the desk's engine.
@@ -181,7 +162,7 @@ pub fn write_band(
     rows: usize,
     pels: &[u8],
     out: &mut [u8],
-) -> Wrote
+) -> Option<Wrote>
     requires { (1 ≤ width) × (width ≤ max_width) × (1 ≤ rows) × (rows ≤ max_rows)
         × (length pels.now ≡ rows * row_bytes width)
         × LawfulTable table.entries }

@@ -298,14 +298,14 @@ loop-x-preserved c = let a = c.args in
       under-part _ _ _ _ _ (omega arith) (omega arith) reach.1,
     )
 
-pub bottom-bottom-requires : goal.bottom-bottom-requires
-bottom-bottom-requires c = c.loop-x.invariant.0.0.done.coded.ready.1
+pub bottom-requires : goal.bottom-requires
+bottom-requires c = c.loop-x.invariant.0.0.done.coded.ready.1
 
 pub returns : goal.returns
 returns c = let l = c.loop-x in
     let i = l.invariant.0 in
     let w : l.x ≡ c.args.width = omega (arith, i.0.passed, c.loop-x-test.false) in
-    rw c.bottom-bottom.ensures
+    rw c.bottom.ensures
     (record {
       done = read_down _ _ c.above-coder.ensures _ _ _ _ _ _ _ _ _ _ _ c.args.start.view _ _
           (read_whole top_engine top_is_engine top_seven q_reader _ _ _ _ _ _ _ _ _ _ _ _ _ _ _ _ _ _ i.0

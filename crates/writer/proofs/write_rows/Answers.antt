@@ -34,7 +34,7 @@ begun c =
     let a = c.args in
     let q = c.requires in
     let m = c.row_bytes-bytes in
-    let k = c.start-coder in
+    let k = c.start in
     band-first a.width a.last a.pels.now a.table.entries a.out.now m.result k.result _ _ _ _ _
     m.ensures k.ensures q.5 c.write_first-run.ensures
 
@@ -51,8 +51,8 @@ kept c =
 pub row_bytes-bytes-requires : goal.row_bytes-bytes-requires
 row_bytes-bytes-requires c = omega arith
 
-pub start-coder-requires : goal.start-coder-requires
-start-coder-requires c = tt
+pub start-requires : goal.start-requires
+start-requires c = tt
 
 pub slice_bounds-write_first-end : goal.slice_bounds-write_first-end
 slice_bounds-write_first-end c =
@@ -65,7 +65,7 @@ write_first-run-requires c =
     let a = c.args in
     let q = c.requires in
     let m = c.row_bytes-bytes in
-    let k = c.start-coder in
+    let k = c.start in
     let n : length a.last ≡ last_bytes = search rules in (
       q.1,
       rw (length-take-le m.result a.pels.now (whole past.After-row_bytes-bytes)) (omega (arith, m.ensures)),
@@ -99,12 +99,6 @@ write_next-run-requires c = let a = c.args in
       omega (arith, f.1, t, q.3),
       f.2,
     )
-
-pub overflow_add-y : goal.overflow_add-y
-overflow_add-y c = omega (arith, c.loop-y-test.true, c.requires.3)
-
-pub loop-y-smaller : goal.loop-y-smaller
-loop-y-smaller c = omega (arith, c.loop-y-test.true)
 
 pub loop-y-preserved : goal.loop-y-preserved
 loop-y-preserved c = let a = c.args in
