@@ -1,35 +1,51 @@
 -- The second engine is one, since with its string at the bottom it is the first; and bands written by both are the
 -- same. Assumes nothing.
 use mathlib.Core.Path.{◌≡◌, sym, ◌∙◌, subst₂}
-use Prim.Native.Nat.{ℕ, ◌≤◌}
+use Prim.Native.Nat.{ℕ, ◌+◌, ◌≤◌, ◌<◌}
 use mathlib.Core.List.{List, [], ◌++◌}
+use mathlib.Core.Bool.{Bool, true}
 use lib.ListN.{drop}
 use Rattle.coder.specs.Page.{Page}
 use Rattle.engine.specs.Coded.{shifts_of, Coded}
 use Rattle.engine.proofs.Engine.{IsEngine}
 use Rattle.engine.proofs.Verdict.{end-code, end-shifts, end-revisits, end-model}
 use Rattle.octets.specs.declared.Coder.{Coder}
-use Rattle.octets.specs.Octets.{start}
-use Rattle.octets.specs.Lift.{lift}
+use Rattle.estimate.specs.Estimate.{row_of, next}
+use Rattle.interval.specs.Interval.{decision, part_of}
+use Rattle.octets.specs.declared.Put.{Put}
+use Rattle.octets.specs.Octets.{start, pel}
+use Rattle.octets.specs.Lift.{lift, settled_of}
 use Rattle.top.specs.declared.Top.{Top}
-use Rattle.top.specs.Top.{bottom_of, above_of}
-use Rattle.top.specs.TopStills.{above-bottom, above_holds}
+use Rattle.top.specs.Top.{bottom_of, above_of, narrowed}
+use Rattle.top.specs.TopStills.{above-bottom, above_holds, top_stills}
 use Rattle.row.specs.QEngine.{q_engine}
 use Rattle.row.proofs.QEngine.{q_is_engine}
-use Rattle.row.specs.TopEngine.{top_engine}
-use Rattle.row.proofs.AnyEngine.{over_is_engine, over_seven, over-first}
+use Rattle.row.specs.TopEngine.{top_engine, TopSound, TopPelled}
+use Rattle.row.proofs.AnyEngine.{over_is_engine, over_seven, over-first, pelled-still, pelled-moved}
+use Rattle.row.specs.AnyEngine.{still_pel, moved_pel}
 use Rattle.row.proofs.WrittenRow.{Seven}
 
 abbrev pub top_is_engine : IsEngine top_engine
-top_is_engine = over_is_engine bottom_of (λ t. t.width ≤ t.top)
+top_is_engine = over_is_engine bottom_of TopSound
 
 abbrev pub top_seven : Seven top_engine
-top_seven = over_seven bottom_of (λ t. t.width ≤ t.top)
+top_seven = over_seven bottom_of TopSound
+
+-- one pel by it
+pub top_pelled-still : (t : Top) (e : ℕ) → TopSound t → 4096 + row_of e ≤ t.width
+    → TopPelled t e true (still_pel (narrowed (row_of e) t))
+top_pelled-still = pelled-still bottom_of TopSound above_of (λ n t. n ≤ t.width) narrowed top_stills
+
+pub top_pelled-moved : (t : Top) (e : ℕ) (b : Bool) (u : Put Top) (n : ℕ)
+    → (part_of (decision (row_of e) b) (bottom_of t).interval).width < 4096
+    → pel (decision (row_of e) b) (lift (bottom_of t) []) ≡ lift (bottom_of u.coder) (settled_of u)
+    → TopSound u.coder → n ≡ next b e → TopPelled t e b (moved_pel u n)
+top_pelled-moved = pelled-moved bottom_of TopSound
 
 -- whatever the second engine codes, the first does, from the string moved down to the string moved down
 pub first-too : (width : ℕ) (m₀ m : Page) (t₀ t : Top) (n₀ n : ℕ) (ps xs : List ℕ)
     → Coded top_engine width m₀ t₀ n₀ ps m t n xs → Coded q_engine width m₀ (bottom_of t₀) n₀ ps m (bottom_of t) n xs
-first-too = over-first bottom_of (λ t. t.width ≤ t.top)
+first-too = over-first bottom_of TopSound
 
 -- whatever the first engine codes, the second does, from the string moved up to the string moved up
 pub second-too : (width : ℕ) (m₀ m : Page) (c₀ c : Coder) (n₀ n : ℕ) (ps xs : List ℕ)

@@ -24,18 +24,17 @@ counts c =
 
 pub put_last-n-requires : goal.put_last-n-requires
 put_last-n-requires c = let a = c.args in
-    let p = c.requires in
-    let f = band-few a.width a.last a.pels.now a.table.entries a.out.now _ _ _ _ _ _ _
-    c.write_rows-run.ensures p.1 in
-    (c.finish-end.ensures.2, omega (arith, f.1, c.finish-end.ensures.2, p.3))
+    let f = band-few a.band.width a.last a.band.pels.now a.table.entries a.out.now _ _ _ _ _ _ _
+    c.write_rows-run.ensures a.band.narrow in
+    (c.finish-end.ensures.2, omega (arith, f.1, c.finish-end.ensures.2, a.band.few))
 
 pub returns-then-not-has_room : goal.returns-then-not-has_room
 returns-then-not-has_room c = let a = c.args in
     let past = goal.at.returns-then-not-has_room c in
     let w = c.write_rows-run in
     let p = c.put_last-n in
-    let z = without-room a.width a.rows a.last a.pels.now a.table.entries a.out.now
-    (row_at a.width a.pels.now (a.rows - 1)) w.result.table.entries w.result.coder
+    let z = without-room a.band.width a.band.rows a.last a.band.pels.now a.table.entries a.out.now
+    (row_at a.band.width a.band.pels.now (a.band.rows - 1)) w.result.table.entries w.result.coder
     w.new.out w.result.at w.result.revisits w.ensures _ c.finish-end.ensures.0 _
     p.result p.ensures.1 (counts past.After-put_last-n) (sym c.has_room.ensures ∙ c.if-not-has_room.true) in
     (z.0, c.clear.ensures ∙ z.1)
@@ -44,8 +43,8 @@ pub returns : goal.returns
 returns c = let a = c.args in
     let w = c.write_rows-run in
     let p = c.put_last-n in
-    with-room a.width a.rows a.last a.pels.now a.table.entries a.out.now
-    (row_at a.width a.pels.now (a.rows - 1)) w.result.table.entries w.result.coder
+    with-room a.band.width a.band.rows a.last a.band.pels.now a.table.entries a.out.now
+    (row_at a.band.width a.band.pels.now (a.band.rows - 1)) w.result.table.entries w.result.coder
     w.new.out w.result.at w.result.revisits w.ensures _ c.finish-end.ensures.0 _
     p.result p.ensures.1 (counts (goal.at.returns c).After-put_last-n) (sym c.has_room.ensures ∙ c.if-not-has_room.false)
     _ c.last_row.ensures
