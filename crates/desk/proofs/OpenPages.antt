@@ -12,7 +12,7 @@ use Rattle.estimate.specs.Estimate.{index_of, LawfulTable}
 use Rattle.limits.specs.Limits.{max_width}
 use Rattle.desk.specs.declared.Key.{Key}
 use Rattle.desk.specs.Desk.{Page, Desk}
-use Rattle.desk.specs.declared.Found.TheVariants.{At}
+use Rattle.std.specs.Prelude.{Some}
 use Rattle.desk.specs.Places.{is_used, same_key, is_page_of, is_place_of, find_by, is_found, page_found, place_found}
 use Rattle.desk.specs.Places.{no_page}
 use Rattle.desk.specs.Lawful.{within, all, any, lawful_key, low_indexes, no_stray, lawful_page, lawful_place, apart}
@@ -26,7 +26,7 @@ module _ {A : Type 0} (test law : A → Bool) (none : A) where
   Good : A → Type 0
   Good x = (law x ≡ true) × (test x ≡ true)
 
-  from : (xs : List A) (b j : ℕ) → all law xs ≡ true → find_by test xs b ≡ At j → (b ≤ j) × Good (get_or xs (j - b) none)
+  from : (xs : List A) (b j : ℕ) → all law xs ≡ true → find_by test xs b ≡ Some j → (b ≤ j) × Good (get_or xs (j - b) none)
   unfolding all find_by Good
   from [] b j l f = absurd (let z : ◌≡◌ {A = ℕ} 0 1 = cc in omega arith)
   from (x ∷ xs) b j l f = go (test x) refl f (λ q. from xs (suc b) j (both (law x) (all law xs) l).1 q)
@@ -34,14 +34,14 @@ module _ {A : Type 0} (test law : A → Bool) (none : A) where
       at : (n : ℕ) → j - b ≡ n → Good (get_or (x ∷ xs) n none) → Good (get_or (x ∷ xs) (j - b) none)
       at n e g = rw e g
 
-      go : (y : Bool) → test x ≡ y → cond y (At b) (find_by test xs (suc b)) ≡ At j → (find_by test xs (suc b) ≡ At j
+      go : (y : Bool) → test x ≡ y → cond y (Some b) (find_by test xs (suc b)) ≡ Some j → (find_by test xs (suc b) ≡ Some j
           → (suc b ≤ j) × Good (get_or xs
           (j - suc b) none))
           → (b ≤ j) × Good (get_or (x ∷ xs) (j - b) none)
       go true t f r = let z : b ≡ j = cc in (omega arith, at 0 (omega arith) ((both (law x) (all law xs) l).0, t))
       go false t f r = let z : suc b ≤ j = (r f).0 in (omega arith, at (suc (j - suc b)) (omega arith) (r f).1)
 
-  at-found : (xs : List A) (i : ℕ) → all law xs ≡ true → find_by test xs 0 ≡ At i → (law (get_or xs i none) ≡ true)
+  at-found : (xs : List A) (i : ℕ) → all law xs ≡ true → find_by test xs 0 ≡ Some i → (law (get_or xs i none) ≡ true)
       × (test (get_or xs i none) ≡ true)
   unfolding Good
   at-found xs i l f = let e : i - 0 ≡ i = omega arith in rw e at (from xs 0 i l f).1
@@ -77,7 +77,7 @@ used-open p l u = parts (within 1 p.width max_width) (low_indexes p.table.entrie
         let x = within_both 1 _ max_width (p ∙ (both w (t && s) m).0) in
         record { some = x.0; small = x.1; table = low-lawful _ (q ∙ (both t s (both w (t && s) m).1).0) }
 
-pub lawful-open : (d : Desk) (k : Key) (i : ℕ) → lawful d ≡ true → page_found d k ≡ At i
+pub lawful-open : (d : Desk) (k : Key) (i : ℕ) → lawful d ≡ true → page_found d k ≡ Some i
     → LawfulOpen (get_or d.pages i no_page)
 unfolding lawful
 lawful-open d k i l f =
@@ -104,12 +104,12 @@ unfolding any find_by
 found-any test [] b = refl
 found-any test (x ∷ xs) b = go (test x) (found-any test xs (suc b))
   where
-    go : (y : Bool) → is_found (find_by test xs (suc b)) ≡ any test xs → is_found (cond y (At b) (find_by test xs (suc b)))
+    go : (y : Bool) → is_found (find_by test xs (suc b)) ≡ any test xs → is_found (cond y (Some b) (find_by test xs (suc b)))
         ≡ (y || any test xs)
     go true ih = refl
     go false ih = ih
 
-pub page-placed : (d : Desk) (k : Key) (i : ℕ) → lawful d ≡ true → page_found d k ≡ At i
+pub page-placed : (d : Desk) (k : Key) (i : ℕ) → lawful d ≡ true → page_found d k ≡ Some i
     → is_found (place_found d k) ≡ true
 unfolding lawful
 page-placed d k i l f =

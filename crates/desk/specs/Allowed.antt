@@ -1,10 +1,12 @@
 -- What a call may answer, which desk it may leave, and which bytes in its lent buffer: the one statement of every call.
 -- Assumes nothing.
-use Rattle.std.specs.Prelude.{◌≡◌, ℕ, zero, suc, List}
+use Rattle.std.specs.Prelude.{◌≡◌, ℕ, zero, suc, List, Result, Ok, Err}
 use Rattle.band.specs.Band.{Finder, Reader}
 use Rattle.desk.specs.declared.Answer.{Answer}
+use Rattle.desk.specs.declared.Done.{Done}
+use Rattle.desk.specs.declared.Refusal.{Refusal}
 use Rattle.desk.specs.Desk.{Desk, Outcome}
-use Rattle.desk.specs.Refusals.{refusal, lent_after}
+use Rattle.desk.specs.Refusals.{refusal, lent_after, number_of}
 use Rattle.desk.specs.Calls.{Call, key_of, lent_to}
 use Rattle.desk.specs.Standing.{stand}
 use Rattle.desk.specs.Tests.{tests}
@@ -14,6 +16,11 @@ use Rattle.desk.specs.Changes.{changed}
 -- A refusal answers its number, length 0 and S = 0, and no pel revisited.
 abbrev pub refused_as : ℕ → Answer
 refused_as n = record { number = n; length = 0; shifts = 0; revisits = 0 }
+
+-- A call's result, as an answer: 0 and what was done, or the refusal's number.
+abbrev pub answer_of : Result Done Refusal → Answer
+answer_of (Ok d) = record { number = 0; length = d.length; shifts = d.shifts; revisits = d.revisits }
+answer_of (Err r) = refused_as (number_of r)
 
 -- An accepted call answers 0 as its number.
 abbrev pub done_as : Effect → Answer

@@ -3,8 +3,8 @@ use Rattle.std.specs.Prelude.{cond, ◌||◌, List, set}
 use Rattle.estimate.specs.declared.Table.{Table}
 use Rattle.desk.specs.declared.Key.{Key}
 use Rattle.desk.specs.Desk.{Page, Place, Desk}
-use Rattle.desk.specs.declared.Found.{Found}
-use Rattle.desk.specs.declared.Found.TheVariants.{At, Nothing}
+use Rattle.desk.specs.Places.{Found}
+use Rattle.std.specs.Prelude.{Some, None}
 use Rattle.desk.specs.Places.{zero_table, unused_page, free_place, page_found, place_found, table_found, free_page_found}
 use Rattle.desk.specs.Places.{free_place_found, is_found}
 use Rattle.desk.specs.Effects.{Change, stays, gone, becomes}
@@ -19,8 +19,8 @@ reserved_place k = record { state = 1; key = k; table = zero_table }
 
 -- a in the place that was found
 abbrev pub set_at : {A : Type 0} → Found → A → List A → List A
-set_at (At i) a xs = set xs i a
-set_at Nothing a xs = xs
+set_at (Some i) a xs = set xs i a
+set_at None a xs = xs
 
 -- Freed slots and places are used again; the lowest free one is always the one taken.
 abbrev pub or_free : Found → Found → Found

@@ -1,11 +1,10 @@
 -- Document 01, "The desk and who may stand at it": whose pages and places are, and how they are found. Assumes nothing.
-use Rattle.std.specs.Prelude.{ℕ, suc, Bool, true, false, cond, not, ◌&&◌, List, [], ◌∷◌, eqb, get_or, replicate}
+use Rattle.std.specs.Prelude.{ℕ, suc, Bool, cond, not, ◌&&◌, List, [], ◌∷◌, eqb, get_or, replicate, Option}
+use Rattle.std.specs.Prelude.{Some, None, is_some}
 use Rattle.limits.specs.Limits.{max_pages, max_places, contexts}
 use Rattle.estimate.specs.declared.Table.{Table}
 use Rattle.band.specs.Band.{white}
 use Rattle.desk.specs.declared.Key.{Key}
-use Rattle.desk.specs.declared.Found.{Found}
-use Rattle.desk.specs.declared.Found.TheVariants.{At, Nothing}
 use Rattle.desk.specs.declared.Direction.{Direction}
 use Rattle.desk.specs.declared.Direction.TheVariants as way
 use Rattle.desk.specs.Desk.{Page, Place, Desk}
@@ -85,10 +84,14 @@ is_free_page p = eqb p.state 0
 abbrev pub is_free_place : Place → Bool
 is_free_place p = eqb p.state 0
 
--- ---- finding: the first that passes the test, counted from i
+-- ---- finding: what a lookup answers is an index, or nothing
+abbrev pub Found : Type 0
+Found = Option ℕ
+
+-- the first that passes the test, counted from i
 unfoldable pub find_by : {A : Type 0} → (A → Bool) → List A → ℕ → Found
-find_by test [] i = Nothing
-find_by test (x ∷ xs) i = cond (test x) (At i) (find_by test xs (suc i))
+find_by test [] i = None
+find_by test (x ∷ xs) i = cond (test x) (Some i) (find_by test xs (suc i))
 
 -- where the key's open page is
 abbrev pub page_found : Desk → Key → Found
@@ -112,15 +115,14 @@ free_place_found d = find_by is_free_place d.places 0
 
 -- whether there was one
 abbrev pub is_found : Found → Bool
-is_found (At i) = true
-is_found Nothing = false
+is_found f = is_some f
 
 -- the page found (no page, where there is none)
 abbrev pub page_at : Desk → Found → Page
-page_at d (At i) = get_or d.pages i no_page
-page_at d Nothing = no_page
+page_at d (Some i) = get_or d.pages i no_page
+page_at d None = no_page
 
 -- the place found (no place, where there is none)
 abbrev pub place_at : Desk → Found → Place
-place_at d (At i) = get_or d.places i no_place
-place_at d Nothing = no_place
+place_at d (Some i) = get_or d.places i no_place
+place_at d None = no_place

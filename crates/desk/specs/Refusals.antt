@@ -1,6 +1,8 @@
 -- Document 01, "Refusal numbers, in the order they are tested". Assumes nothing.
 use Rattle.std.specs.Prelude.{ℕ, Bool, true, cond, ◌&&◌, ◌||◌, List, [], ◌∷◌, eqb, ltb, length}
 use Rattle.store.specs.Store.{cleared}
+use Rattle.desk.specs.declared.Refusal.{Refusal}
+use Rattle.desk.specs.declared.Refusal.TheVariants as refused
 
 -- a test of a call, and the number that it gives where it holds
 pub record Row : Type 0 where
@@ -19,6 +21,22 @@ refusal (r ∷ rs) = cond r.holds r.number (refusal rs)
 -- The table's order. The sizes that need the page's width (pel length) are tested after 7.
 abbrev pub order : List ℕ
 order = 12 ∷ 1 ∷ 6 ∷ 3 ∷ 2 ∷ 7 ∷ 6 ∷ 11 ∷ 4 ∷ 5 ∷ 8 ∷ 9 ∷ 15 ∷ 10 ∷ []
+
+-- the number of each refusal
+abbrev pub number_of : Refusal → ℕ
+number_of refused.UnlawfulDesk = 12
+number_of refused.KeyOutOfRange = 1
+number_of refused.WrongSize = 6
+number_of refused.PageOpen = 3
+number_of refused.NoPage = 2
+number_of refused.OtherDirection = 7
+number_of refused.NoTable = 11
+number_of refused.PagesFull = 4
+number_of refused.PlacesFull = 5
+number_of refused.PaddingBit = 8
+number_of refused.NoRoom = 9
+number_of refused.Marker = 15
+number_of refused.Damaged = 10
 
 -- the numbers from n on
 unfoldable pub from : ℕ → List ℕ → List ℕ

@@ -5,8 +5,8 @@ use Rattle.ground.specs.Options.{or_else}
 use Rattle.estimate.specs.declared.Table.{Table}
 use Rattle.desk.specs.declared.Key.{Key}
 use Rattle.desk.specs.Desk.{Page, Desk}
-use Rattle.desk.specs.declared.Found.{Found}
-use Rattle.desk.specs.declared.Found.TheVariants.{At, Nothing}
+use Rattle.desk.specs.Places.{Found}
+use Rattle.std.specs.Prelude.{Some, None}
 use Rattle.desk.specs.Places.{no_page, page_found, table_found, free_page_found, free_place_found, is_found, page_at}
 use Rattle.desk.specs.Places.{place_at}
 use Rattle.desk.specs.Lawful.{lawful}
@@ -26,13 +26,13 @@ page_of s = or_else s.page no_page
 
 -- what a lookup's answer means: the page at the index found, or none
 abbrev pub page_by : Desk → Found → Option Page
-page_by d (At i) = some (page_at d (At i))
-page_by d Nothing = none
+page_by d (Some i) = some (page_at d (Some i))
+page_by d None = none
 
 -- what a lookup's answer means: the learned table at the index found, or none
 abbrev pub table_by : Desk → Found → Option Table
-table_by d (At i) = some (place_at d (At i)).table
-table_by d Nothing = none
+table_by d (Some i) = some (place_at d (Some i)).table
+table_by d None = none
 
 -- a key's open page
 abbrev pub open_page : Desk → Key → Option Page

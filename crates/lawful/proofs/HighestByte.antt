@@ -1,26 +1,25 @@
 -- The highest byte decides whether all are low, or all zero. Assumes nothing.
-use Prim.Native.Nat.{ℕ, ◌+◌, ◌/◌, ◌≤◌, ◌<◌}
+use Prim.Native.Nat.{ℕ, max, ◌+◌, ◌/◌, ◌≤◌, ◌<◌}
 use native.Mathlib.Omega.{arith}
 use native.Mathlib.Numerals.{add-one}
 use mathlib.Core.Path.{◌≡◌, refl, sym, ap, ◌∙◌}
 use mathlib.Core.Bool.{Bool, true, false, cond, ◌&&◌}
 use mathlib.Core.List.{List, [], ◌∷◌}
-use lib.Dec.{leb, ltb, eqb}
+use lib.Dec.{leb, eqb}
 use lib.ListN.{length, drop, get_or, drop_of_length-le}
 use lib.Seq.{drop-cons}
-use borrow.Author.Tests.{ltb-true, ltb-false, leb-true, leb-false, le-leb, lt-leb, eq-eqb, ne_eqb}
+use borrow.Author.Tests.{leb-true, leb-false, le-leb, lt-leb, eq-eqb, ne_eqb}
 use Rattle.estimate.specs.Estimate.{index_of}
 use Rattle.desk.specs.Lawful.{all, low_indexes, is_zero}
-use Rattle.lawful.specs.Highest.{higher, highest_from, low, top_entry}
+use Rattle.lawful.specs.Highest.{highest_from, low, top_entry}
 
-higher-low : (n h x : ℕ) → leb (higher h x) n ≡ (leb h n && leb x n)
-higher-low n h x = go (ltb h x) (leb h n) (leb x n) refl refl refl
+higher-low : (n h x : ℕ) → leb (max h x) n ≡ (leb h n && leb x n)
+higher-low n h x = go (leb h n) (leb x n) refl refl
   where
-    go : (t a b : Bool) → ltb h x ≡ t → leb h n ≡ a → leb x n ≡ b → leb (cond t x h) n ≡ (a && b)
-    go true true b e f g = g
-    go true false b e f g = let k = ltb-true h x e in let l = leb-false h n f in lt-leb x n (omega arith)
-    go false true b e f g = let k = ltb-false h x e in let l = leb-true h n f in f ∙ sym (le-leb x n (omega arith)) ∙ g
-    go false false b e f g = f
+    go : (a b : Bool) → leb h n ≡ a → leb x n ≡ b → leb (max h x) n ≡ (a && b)
+    go true true f g = let k = leb-true h n f in let l = leb-true x n g in le-leb (max h x) n (omega arith)
+    go true false f g = let l = leb-false x n g in lt-leb (max h x) n (omega arith)
+    go false b f g = let k = leb-false h n f in lt-leb (max h x) n (omega arith)
 
 -- the highest is at most n where all are
 highest-low : (n h : ℕ) (xs : List ℕ) → leb (highest_from h xs) n ≡ (leb h n && low n xs)
@@ -30,7 +29,7 @@ highest-low n h [] = with-true (leb h n)
     with-true : (b : Bool) → b ≡ (b && true)
     with-true true = refl
     with-true false = refl
-highest-low n h (x ∷ xs) = highest-low n (higher h x) xs ∙ ap (λ (b : Bool). b && low n xs) (higher-low n h x)
+highest-low n h (x ∷ xs) = highest-low n (max h x) xs ∙ ap (λ (b : Bool). b && low n xs) (higher-low n h x)
     ∙ assoc (leb h n) (leb x n) (low n xs)
   where
     assoc : (a b c : Bool) → ((a && b) && c) ≡ (a && (b && c))
@@ -73,7 +72,7 @@ pub record Highest (top : ℕ) (xs : List ℕ) (i : ℕ) : Type 0 where
   pub rest : highest_from top (drop i xs) ≡ highest_from 0 xs
 
 module _ {top : ℕ} {xs : List ℕ} {i : ℕ} (s : Highest top xs i) where
-  pub highest-next : (t : ℕ) → i < length xs → t ≡ higher top (get_or xs i 0) → Highest t xs (i + 1)
+  pub highest-next : (t : ℕ) → i < length xs → t ≡ max top (get_or xs i 0) → Highest t xs (i + 1)
   unfolding highest_from
   highest-next t h e = record { rest = rw e (rw add-one (rw (drop-cons xs i 0 h) at s.rest)) }
 

@@ -1,13 +1,10 @@
 -- The highest byte of a list. Assumes nothing.
-use Rattle.std.specs.Prelude.{ℕ, Bool, cond, List, [], ◌∷◌, leb, ltb, eqb}
+use Rattle.std.specs.Prelude.{ℕ, max, Bool, cond, List, [], ◌∷◌, leb, eqb}
 use Rattle.desk.specs.Lawful.{all}
-
-abbrev pub higher : ℕ → ℕ → ℕ
-higher h x = cond (ltb h x) x h
 
 unfoldable pub highest_from : ℕ → List ℕ → ℕ
 highest_from h [] = h
-highest_from h (x ∷ xs) = highest_from (higher h x) xs
+highest_from h (x ∷ xs) = highest_from (max h x) xs
 
 -- every byte is at most n
 abbrev pub low : ℕ → List ℕ → Bool

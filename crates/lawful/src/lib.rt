@@ -3,18 +3,19 @@
 #![tactic(auto)]
 
 ghost use Rattle.std.specs.Prelude.{◌≡◌, ◌+◌, ◌*◌, ◌≤◌, ◌<◌, length, get_or, drop};
-ghost use Rattle.limits.specs.Limits.{max_width, max_pages, max_places, last_bytes};
-ghost use Rattle.parts.specs.Parts.{as_page, as_place, pages_of, places_of, parts_of, desk_of, Sized, Whole};
+ghost use Rattle.limits.specs.Limits.{max_width, last_bytes};
+ghost use Rattle.parts.specs.Parts.{as_page, as_place, pages_of, places_of, desk_of, Whole};
+ghost use Rattle.parts.specs.declared.Sought.TheVariants.{Used};
+ghost use Rattle.parts.specs.Finding.{line_sought};
 ghost use Rattle.parts.specs.Lines.{no_page_line, no_place_line};
-ghost use Rattle.desk.specs.Lawful.{within, lawful_key, no_stray, lawful_page, lawful_place, lawful};
-ghost use Rattle.lawful.specs.Highest.{higher, highest_from, low, top_entry};
+ghost use Rattle.desk.specs.Lawful.{within, any, lawful_key, no_stray, lawful_page, lawful_place, lawful};
+ghost use Rattle.lawful.specs.Highest.{highest_from, low, top_entry};
 ghost use Rattle.lawful.specs.Every.{each};
 ghost use Rattle.lawful.specs.Each.{open_right, unused_right, page_known, place_known, page_right, place_right};
-ghost use Rattle.lawful.specs.Each.{has_page, has_place};
 
 use desk::Key;
-use limits::{CONTEXTS, MAX_KEY, MAX_WIDTH, PAGES, PLACES, ROW};
-use parts::{Book, PageLine, PlaceLine, Sought};
+use limits::{CONTEXTS, MAX_KEY, MAX_WIDTH, ROW};
+use parts::{Line, PageLine, Parts, PlaceLine, Sought};
 
 // 2 × 29 + 1: the highest entry of a table.
 const MAX_ENTRY: u8 = 59;
@@ -33,25 +34,13 @@ pub fn lawful_key(key: Key) -> bool
     in_range(key.school, MAX_KEY) & in_range(key.class, MAX_KEY)
 }
 
-// The higher of two.
-fn higher(h: u8, x: u8) -> u8
-    ensures { result ≡ higher h x }
-{
-    if h < x {
-        return x;
-    }
-    h
-}
-
 // The highest byte.
 fn highest(xs: &[u8]) -> u8
     ensures { result ≡ highest_from 0 xs.now }
 {
     let mut top: u8 = 0;
-    let mut i: usize = 0;
-    while i < xs.len() {
-        top = higher(top, xs[i]);
-        i += 1;
+    for x in xs {
+        top = top.max(*x);
     }
     top
 }
@@ -88,8 +77,7 @@ fn open_right(p: PageLine, table: &[u8], last: &[u8]) -> bool
 fn unused_right(p: PageLine, table: &[u8], last: &[u8]) -> bool
     ensures { result ≡ unused_right (as_page p table.now last.now) }
 {
-    parts::same_key(p.key, parts::no_key())
-        & ((p.width == 0) & (is_low(table, 0) & is_low(last, 0)))
+    (p.key == Key::default()) & ((p.width == 0) & (is_low(table, 0) & is_low(last, 0)))
 }
 
 // By whether it is open.
@@ -119,99 +107,75 @@ fn lawful_place(q: PlaceLine, table: &[u8]) -> bool
 {
     let low = is_low(table, top_entry(q.state));
     if q.state == 0 {
-        return parts::same_key(q.key, parts::no_key()) & low;
+        return (q.key == Key::default()) & low;
     }
     (q.state <= 2) & (lawful_key(q.key) & low)
 }
 
-// Whether a page from that slot on is under the key.
-fn has_page(pages: [PageLine; PAGES], from: usize, key: Key) -> bool
-    ensures { result ≡ has_page (drop from pages) key }
+// Whether a line from that one on is under the key.
+fn has<L: Line>(lines: &[L], from: usize, key: Key) -> bool
+    ensures { result ≡ any (line_sought L.state L.key (Used key)) (drop from lines.now) }
 {
-    parts::is_found(parts::find_page(pages, from, Sought::Used(key)))
-}
-
-// Whether a place from that one on is under the key.
-fn has_place(places: [PlaceLine; PLACES], from: usize, key: Key) -> bool
-    ensures { result ≡ has_place (drop from places) key }
-{
-    parts::is_found(parts::find_place(places, from, Sought::Used(key)))
+    parts::find(lines, from, Sought::Used(key)).is_some()
 }
 
 // An open page is alone under its key, and has its place.
-fn page_known(pages: [PageLine; PAGES], places: [PlaceLine; PLACES], i: usize) -> bool
-    requires { i < max_pages }
-    ensures { result ≡ page_known places (get_or pages i no_page_line) (drop (i + 1) pages) }
+fn page_known(pages: &[PageLine], places: &[PlaceLine], i: usize) -> bool
+    requires { i < length pages.now }
+    ensures { result ≡ page_known places.now (get_or pages.now i no_page_line) (drop (i + 1) pages.now) }
 {
     let p = pages[i];
-    (p.state == 0) | (!has_page(pages, i + 1, p.key) & has_place(places, 0, p.key))
+    (p.state == 0) | (!has(pages, i + 1, p.key) & has(places, 0, p.key))
 }
 
 // A used place is alone under its key, and a reserved one has its page.
-fn place_known(pages: [PageLine; PAGES], places: [PlaceLine; PLACES], i: usize) -> bool
-    requires { i < max_places }
-    ensures { result ≡ place_known pages (get_or places i no_place_line) (drop (i + 1) places) }
+fn place_known(pages: &[PageLine], places: &[PlaceLine], i: usize) -> bool
+    requires { i < length places.now }
+    ensures { result ≡ place_known pages.now (get_or places.now i no_place_line) (drop (i + 1) places.now) }
 {
     let q = places[i];
-    ((q.state == 0) | !has_place(places, i + 1, q.key))
-        & ((q.state != 1) | has_page(pages, 0, q.key))
+    ((q.state == 0) | !has(places, i + 1, q.key)) & ((q.state != 1) | has(pages, 0, q.key))
 }
 
 // Every page is right: in itself, and in the book.
 fn pages_right(
-    pages: [PageLine; PAGES],
-    places: [PlaceLine; PLACES],
-    working: &[[u8; CONTEXTS]; PAGES],
-    rows: &[[u8; ROW]; PAGES],
+    pages: &[PageLine],
+    places: &[PlaceLine],
+    working: &[[u8; CONTEXTS]],
+    rows: &[[u8; ROW]],
 ) -> bool
-    requires { (length working.now ≡ max_pages) × (length rows.now ≡ max_pages) }
-    ensures { (result ≡ each (page_right places) (pages_of pages working.now rows.now))
-        × (length pages ≡ max_pages) }
+    requires { (length pages.now ≡ length working.now) × (length pages.now ≡ length rows.now) }
+    ensures { result ≡ each (page_right places.now) (pages_of pages.now working.now rows.now) }
 {
-    let mut i: usize = 0;
-    while i < PAGES {
-        let lawful = lawful_page(pages[i], &working[i], &rows[i]);
+    for (i, page) in pages.iter().enumerate() {
+        let lawful = lawful_page(*page, &working[i], &rows[i]);
         if !(lawful & page_known(pages, places, i)) {
             return false;
         }
-        i += 1;
     }
     true
 }
 
 // Every place is right: in itself, and in the book.
-fn places_right(
-    pages: [PageLine; PAGES],
-    places: [PlaceLine; PLACES],
-    learned: &[[u8; CONTEXTS]; PLACES],
-) -> bool
-    requires { length learned.now ≡ max_places }
-    ensures { (result ≡ each (place_right pages) (places_of places learned.now))
-        × (length places ≡ max_places) }
+fn places_right(pages: &[PageLine], places: &[PlaceLine], learned: &[[u8; CONTEXTS]]) -> bool
+    requires { length places.now ≡ length learned.now }
+    ensures { result ≡ each (place_right pages.now) (places_of places.now learned.now) }
 {
-    let mut i: usize = 0;
-    while i < PLACES {
-        let lawful = lawful_place(places[i], &learned[i]);
+    for (i, place) in places.iter().enumerate() {
+        let lawful = lawful_place(*place, &learned[i]);
         if !(lawful & place_known(pages, places, i)) {
             return false;
         }
-        i += 1;
     }
     true
 }
 
 // Whether the desk is lawful.
-pub fn lawful_desk(
-    book: Book,
-    working: &[[u8; CONTEXTS]; PAGES],
-    rows: &[[u8; ROW]; PAGES],
-    learned: &[[u8; CONTEXTS]; PLACES],
-) -> bool
-    requires { Sized working.now rows.now learned.now }
-    ensures { (result ≡ lawful (desk_of (parts_of book working.now rows.now learned.now))) × Whole
-        (parts_of book working.now rows.now learned.now) }
+pub fn lawful_desk(desk: &Parts) -> bool
+    ensures { (result ≡ lawful (desk_of desk.now)) × Whole desk.now }
 {
-    let pages = book.pages;
-    let places = book.places;
-    pages_right(pages, places, working, rows) & places_right(pages, places, learned)
+    let pages = &desk.book.pages;
+    let places = &desk.book.places;
+    pages_right(pages, places, &desk.working, &desk.rows)
+        & places_right(pages, places, &desk.learned)
 }

@@ -6,12 +6,22 @@ use lib.ListN.{length, replicate}
 use Rattle.limits.specs.Limits.{max_pages, max_places, contexts, last_bytes}
 use Rattle.band.specs.Band.{white}
 use Rattle.parts.specs.declared.PageLine.{PageLine}
+use Rattle.parts.specs.declared.PlaceLine.{PlaceLine}
 use Rattle.parts.specs.declared.Parts.{Parts}
 use Rattle.desk.specs.Desk.{Page}
 use Rattle.parts.specs.Parts.{as_page, as_place, beside, pages_of, places_of, parts_of, desk_of, Whole}
 use Rattle.parts.specs.Lines.{no_page_line, no_place_line}
 use Rattle.desk.specs.Places.{zero_table, unused_page, free_place, empty_desk}
 
+-- ---- lines of nothing but zeros
+pub unused-line : (l : PageLine) → (l.state ≡ 0) × (((l.key.school ≡ 0) × (l.key.class ≡ 0)) × (l.width ≡ 0))
+    → l ≡ no_page_line
+unused-line l e = λ i. record { state = e.0 i; key = record { school = e.1.0.0 i; class = e.1.0.1 i }; width = e.1.1 i }
+
+pub free-line : (l : PlaceLine) → (l.state ≡ 0) × ((l.key.school ≡ 0) × (l.key.class ≡ 0)) → l ≡ no_place_line
+free-line l e = λ i. record { state = e.0 i; key = record { school = e.1.0 i; class = e.1.1 i } }
+
+-- ---- the parts that have no others
 beside-replicate : {A B C : Type 0} (f : A → B → C) (n : ℕ) (x : A) (y : B) → beside f (replicate n x) (replicate n y)
     ≡ replicate n (f x y)
 unfolding beside

@@ -1,40 +1,39 @@
 -- Finding, step by step: the search at an element, past it, and past all; what is found is within. Assumes nothing.
 use Prim.Native.Nat.{ℕ, ◌+◌, ◌≤◌, ◌<◌}
-use native.Mathlib.Omega.{arith}
 use native.Mathlib.Numerals.{add-one}
-use mathlib.Core.Path.{◌≡◌, refl}
+use mathlib.Core.Path.{◌≡◌, sym, ap, ap₂, ◌∙◌}
 use mathlib.Core.Bool.{Bool, true, false}
 use mathlib.Core.List.{List}
 use lib.ListN.{length, drop, get_or, drop_of_length-le}
 use lib.Seq.{drop-cons}
-use Rattle.desk.specs.declared.Found.TheVariants.{At, Nothing}
+use Rattle.std.specs.Prelude.{Some, None}
 use Rattle.desk.specs.Places.{find_by}
-use Rattle.parts.specs.Finding.{found_below}
+use Rattle.desk.specs.declared.Key.{Key}
+use Rattle.parts.specs.declared.Sought.{Sought}
+use Rattle.parts.specs.Finding.{found_below, is_sought, line_sought}
 
--- a search among n, begun at the b-th, that has come to the i-th
-pub record Searching {A : Type 0} (test : A → Bool) (xs : List A) (n b i : ℕ) : Type 0 where
-  pub size : length xs ≡ n
-  pub rest : find_by test (drop i xs) i ≡ find_by test (drop b xs) b
+-- a search that was begun at the b-th has come to the i-th
+abbrev pub Searching : {A : Type 0} → (A → Bool) → List A → ℕ → ℕ → Type 0
+Searching test xs b i = find_by test (drop i xs) i ≡ find_by test (drop b xs) b
 
-pub search-starts : {A : Type 0} {test : A → Bool} {xs : List A} {n b : ℕ} → length xs ≡ n → Searching test xs n b b
-search-starts e = record { size = e; rest = refl }
-
-module _ {A : Type 0} {test : A → Bool} {xs : List A} {n b i : ℕ} (s : Searching test xs n b i) where
-  pub found_nowhere : n ≤ i → (Nothing ≡ find_by test (drop b xs) b) × found_below n Nothing
+module _ {A : Type 0} (test : A → Bool) (xs : List A) (b i : ℕ) (s : Searching test xs b i) where
+  pub found_nowhere : length xs ≤ i → (None ≡ find_by test (drop b xs) b) × found_below (length xs) None
   unfolding find_by
-  found_nowhere h =
-      let past : length xs ≤ i = omega (arith, s.size) in
-      (rw (drop_of_length-le xs past) at s.rest, tt)
+  found_nowhere h = (rw (drop_of_length-le xs h) at s, tt)
 
   -- none is what an index past the end denotes
-  module _ (none : A) (h : i < n) where
-    within : i < length xs
-    within = omega (arith, s.size)
-
-    pub found_here : test (get_or xs i none) ≡ true → (At i ≡ find_by test (drop b xs) b) × found_below n (At i)
+  module _ (none : A) (h : i < length xs) where
+    pub found_here : test (get_or xs i none) ≡ true
+        → (Some i ≡ find_by test (drop b xs) b) × found_below (length xs) (Some i)
     unfolding find_by
-    found_here y = (rw (drop-cons xs i none within, y) at s.rest, h)
+    found_here y = (rw (drop-cons xs i none h, y) at s, h)
 
-    pub found-later : test (get_or xs i none) ≡ false → Searching test xs n b (i + 1)
+    pub found-later : test (get_or xs i none) ≡ false → Searching test xs b (i + 1)
     unfolding find_by
-    found-later y = record { size = s.size; rest = rw add-one (rw (drop-cons xs i none within, y) at s.rest) }
+    found-later y = rw add-one (rw (drop-cons xs i none h, y) at s)
+
+-- what was told of an element's state and key is told of it
+pub told : {A : Type 0} (state : A → ℕ) (key : A → Key) (s : Sought) {x y : A} {n : ℕ} {k : Key} {b b' : Bool} → x ≡ y
+    → n ≡ state x → k ≡ key x → b ≡ is_sought s n k → b ≡ b' → line_sought state key s y ≡ b'
+told state key s e f g h t =
+    ap (line_sought state key s) (sym e) ∙ ap₂ (is_sought s) (sym f) (sym g) ∙ sym h ∙ t

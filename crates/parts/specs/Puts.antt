@@ -1,20 +1,23 @@
 -- A page put in its slot, a place put where one was found: among the parts. Assumes nothing.
-use Rattle.std.specs.Prelude.{ℕ, ◌≡◌, List, length, set}
-use Rattle.parts.specs.declared.Book.{Book}
-use Rattle.desk.specs.declared.Found.{Found}
+use Rattle.std.specs.Prelude.{ℕ, ◌≡◌, length, set}
 use Rattle.desk.specs.Desk.{Page, Place}
-use Rattle.parts.specs.Parts.{pages_of, places_of}
+use Rattle.desk.specs.Places.{Found}
 use Rattle.desk.specs.Changes.{set_at}
+use Rattle.parts.specs.declared.Parts.{Parts}
+use Rattle.parts.specs.Parts.{pages_of, places_of}
 
-pub record PagePut (book : Book) (working rows : List (List ℕ)) (i : ℕ) (page : Page) (next : Book)
-    (working' rows' : List (List ℕ)) : Type 0 where
-  pub places : next.places ≡ book.places
-  pub pages : pages_of next.pages working' rows' ≡ set (pages_of book.pages working rows) i page
-  pub sizes : (length next.pages ≡ length book.pages) × (length working' ≡ length working)
-      × (length rows' ≡ length rows)
+-- the page in slot i; the places are as they were
+pub record PagePut (p : Parts) (i : ℕ) (page : Page) (q : Parts) : Type 0 where
+  pub places : q.book.places ≡ p.book.places
+  pub learned : q.learned ≡ p.learned
+  pub pages : pages_of q.book.pages q.working q.rows ≡ set (pages_of p.book.pages p.working p.rows) i page
+  pub sizes : (length q.book.pages ≡ length p.book.pages) × (length q.working ≡ length p.working)
+      × (length q.rows ≡ length p.rows)
 
-pub record PlacePut (book : Book) (learned : List (List ℕ)) (found : Found) (place : Place) (next : Book)
-    (learned' : List (List ℕ)) : Type 0 where
-  pub pages : next.pages ≡ book.pages
-  pub places : places_of next.places learned' ≡ set_at found place (places_of book.places learned)
-  pub sizes : (length next.places ≡ length book.places) × (length learned' ≡ length learned)
+-- the place where one was found; the pages are as they were
+pub record PlacePut (p : Parts) (found : Found) (place : Place) (q : Parts) : Type 0 where
+  pub pages : q.book.pages ≡ p.book.pages
+  pub working : q.working ≡ p.working
+  pub rows : q.rows ≡ p.rows
+  pub places : places_of q.book.places q.learned ≡ set_at found place (places_of p.book.places p.learned)
+  pub sizes : (length q.book.places ≡ length p.book.places) × (length q.learned ≡ length p.learned)

@@ -1,19 +1,11 @@
 -- What a call over the parts gives back, and what that says. Assumes nothing.
-use Rattle.std.specs.Prelude.{ℕ, List}
+use Rattle.std.specs.Prelude.{List, ℕ}
 use Rattle.desk.specs.declared.Answer.{Answer}
-use Rattle.parts.specs.declared.Book.{Book}
 use Rattle.parts.specs.declared.Parts.{Parts}
-use Rattle.parts.specs.declared.Reply.{Reply}
 use Rattle.desk.specs.Desk.{Outcome}
 use Rattle.parts.specs.Parts.{desk_of, Whole}
 use Rattle.desk.specs.Calls.{Call}
-use Rattle.desk.specs.Allowed.{refused_as, Allowed}
-
-abbrev pub refused_by : ℕ → Book → Reply
-refused_by n book = record { answer = refused_as n; book = book }
-
-abbrev pub done_by : ℕ → ℕ → ℕ → Book → Reply
-done_by len s n book = record { answer = record { number = 0; length = len; shifts = s; revisits = n }; book = book }
+use Rattle.desk.specs.Allowed.{Allowed}
 
 -- the desk that a call leaves, with its answer
 abbrev pub outcome_of : Answer → Parts → Outcome

@@ -3,8 +3,8 @@ use native.Mathlib.Omega.{arith}
 use Rattle.lawful.proofs.HighestByte.{highest-next, highest-end}
 use Rattle.lawful.proofs.highest.Goals as goal
 
-pub loop-i-preserved : goal.loop-i-preserved
-loop-i-preserved c = highest-next c.loop-i.invariant c.higher-top.result (omega arith) c.higher-top.ensures
+pub loop-x-preserved : goal.loop-x-preserved
+loop-x-preserved c = highest-next c.loop-x.invariant c.max-top.result (omega arith) c.max-top.ensures
 
 pub returns : goal.returns
-returns c = highest-end c.loop-i.invariant (omega arith)
+returns c = highest-end c.loop-x.invariant (omega arith)

@@ -2,7 +2,7 @@
 use mathlib.Core.Path.{ap, ◌∙◌}
 use Rattle.desk.specs.Places.{is_found}
 use Rattle.desk.proofs.OpenPages.{found-any}
-use Rattle.lawful.proofs.has_page.Goals as goal
+use Rattle.lawful.proofs.has.Goals as goal
 
 pub returns : goal.returns
-returns c = c.is_found.ensures ∙ ap is_found c.find_page.ensures.0 ∙ found-any _ _ _
+returns g c = c.is_some.ensures ∙ ap is_found c.find.ensures.0 ∙ found-any _ _ _

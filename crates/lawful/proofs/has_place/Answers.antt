@@ -1,8 +1,0 @@
--- A search finds one where there is one. Assumes nothing.
-use mathlib.Core.Path.{ap, ◌∙◌}
-use Rattle.desk.specs.Places.{is_found}
-use Rattle.desk.proofs.OpenPages.{found-any}
-use Rattle.lawful.proofs.has_place.Goals as goal
-
-pub returns : goal.returns
-returns c = c.is_found.ensures ∙ ap is_found c.find_place.ensures.0 ∙ found-any _ _ _
