@@ -1,61 +1,69 @@
 -- The refusals that calls share: where a page stands, where none does, and where it goes the other way. Assumes
 -- nothing.
 use Prim.Native.Nat.{ℕ}
-use mathlib.Core.Path.{◌≡◌, refl, ap}
+use mathlib.Core.Path.{◌≡◌, refl, sym, ap}
 use mathlib.Core.Logic.{◌≢◌}
-use native.Mathlib.Omega.{arith}
 use mathlib.Core.Bool.{Bool, true, false}
 use mathlib.Core.List.{List}
 use lib.ListN.{get_or}
 use borrow.Author.Tests.{eq-eqb, ne_eqb}
-use Rattle.desk.specs.declared.Found.{Found}
-use Rattle.desk.specs.declared.Found.TheVariants.{At, Nothing}
+use Rattle.std.specs.Prelude.{Some, None, Result, Ok, Err, is_ok, ok_or}
+use Rattle.ground.proofs.Bools.{no_way}
+use Rattle.desk.specs.declared.Refusal.{Refusal}
+use Rattle.desk.specs.declared.Refusal.TheVariants.{NoPage, OtherDirection}
+use Rattle.desk.specs.Places.{Found}
 use Rattle.parts.specs.declared.PageLine.{PageLine}
 use Rattle.parts.specs.Lines.{no_page_line}
-use Rattle.refusals.specs.declared.Stands.{Stands}
-use Rattle.refusals.specs.declared.Stands.TheVariants.{On, Refused}
-use Rattle.refusals.specs.Stands.{on_page, early, standing, standing_to}
+use Rattle.parts.specs.Finding.{found_below}
+use Rattle.refusals.specs.Stands.{on_page, early, standing, standing_to, stands_below}
 
-pub on-found : (f : Found) (i : ℕ) → f ≡ At i → On i ≡ on_page f
+-- a page, or the refusal that there is none
+pub or-page : (f : Found) → ok_or f NoPage ≡ on_page f
 unfolding on_page
-on-found f i e = rw e
+or-page (Some i) = refl
+or-page None = refl
 
-pub on_none : (f : Found) → f ≡ Nothing → Refused 2 ≡ on_page f
-unfolding on_page
-on_none f e = rw e
+pub or-below : (n : ℕ) (f : Found) → found_below n f → stands_below n (ok_or f NoPage)
+or-below n (Some i) h = h
+or-below n None h = tt
+
+-- the same refusal of a call that asks for a slot
+abbrev asked : Result (Unit {0}) Refusal → Result ℕ Refusal
+asked (Ok u) = Ok 0
+asked (Err r) = Err r
 
 -- ---- as it is tested
 module _ (good known sized : Bool) (found : Found) where
-  pub stopped : (n : ℕ) → n ≡ early good known sized → n ≢ 0 → Refused n ≡ standing good known sized found
+  pub stopped : (r : Refusal) → Err r ≡ early good known sized → Err r ≡ standing good known sized found
   unfolding standing
-  stopped n e h = go good known sized e
+  stopped r e = go good known sized e
     where
-      go : (g k s : Bool) → n ≡ early g k s → Refused n ≡ standing g k s found
-      go true true true e = absurd (h e)
-      go true true false e = ap Refused e
-      go true false s e = ap Refused e
-      go false k s e = ap Refused e
+      go : (g k s : Bool) → Err r ≡ early g k s → Err r ≡ standing g k s found
+      go true true true e = no_way (sym (ap is_ok e))
+      go true true false e = ap asked e
+      go true false s e = ap asked e
+      go false k s e = ap asked e
 
-  pub went_on : early good known sized ≡ 0 → on_page found ≡ standing good known sized found
+  pub went_on : (u : Unit {0}) → Ok u ≡ early good known sized → on_page found ≡ standing good known sized found
   unfolding standing
-  went_on e = go good known sized e
+  went_on u e = go good known sized e
     where
-      go : (g k s : Bool) → early g k s ≡ 0 → on_page found ≡ standing g k s found
+      go : (g k s : Bool) → Ok u ≡ early g k s → on_page found ≡ standing g k s found
       go true true true e = refl
-      go true true false e = absurd (omega arith)
-      go true false s e = absurd (omega arith)
-      go false k s e = absurd (omega arith)
+      go true true false e = no_way (ap is_ok e)
+      go true false s e = no_way (ap is_ok e)
+      go false k s e = no_way (ap is_ok e)
 
-module _ (pages : List PageLine) (state : ℕ) (s : Stands) where
-  pub away-still : (n : ℕ) → s ≡ Refused n → s ≡ standing_to pages state s
+module _ (pages : List PageLine) (state : ℕ) (s : Result ℕ Refusal) where
+  pub away-still : (r : Refusal) → Err r ≡ s → Err r ≡ standing_to pages state s
   unfolding standing_to
-  away-still n e = rw e
+  away-still r e = ap (standing_to pages state) e
 
-  module _ (i : ℕ) (e : s ≡ On i) where
-    pub other_way : (get_or pages i no_page_line).state ≢ state → Refused 7 ≡ standing_to pages state s
+  module _ (i : ℕ) (e : Ok i ≡ s) where
+    pub other_way : (get_or pages i no_page_line).state ≢ state → Err OtherDirection ≡ standing_to pages state s
     unfolding standing_to
-    other_way h = rw (e, ne_eqb (get_or pages i no_page_line).state state h)
+    other_way h = rw (sym e, ne_eqb (get_or pages i no_page_line).state state h)
 
-    pub right-way : (get_or pages i no_page_line).state ≡ state → On i ≡ standing_to pages state s
+    pub right-way : (get_or pages i no_page_line).state ≡ state → Ok i ≡ standing_to pages state s
     unfolding standing_to
-    right-way h = rw (e, eq-eqb (get_or pages i no_page_line).state state h)
+    right-way h = rw (sym e, eq-eqb (get_or pages i no_page_line).state state h)

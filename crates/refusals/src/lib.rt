@@ -3,95 +3,48 @@
 
 ghost use Rattle.std.specs.Prelude.{◌≡◌};
 ghost use Rattle.limits.specs.Limits.{max_pages};
-ghost use Rattle.parts.specs.declared.Sought.TheVariants.{Used};
-ghost use Rattle.desk.specs.Places.{find_by, state_for};
-ghost use Rattle.parts.specs.Finding.{page_sought};
-ghost use Rattle.desk.specs.Lawful.{lawful_key};
-ghost use Rattle.parts.specs.Replies.{refused_by};
-ghost use Rattle.refusals.specs.Stands.{early, standing, standing_to, number_of, stands_below};
+ghost use Rattle.desk.specs.Places.{page_found, state_for};
+ghost use Rattle.desk.specs.Lawful.{lawful_key, lawful};
+ghost use Rattle.parts.specs.Parts.{desk_of, Whole};
+ghost use Rattle.refusals.specs.Stands.{early, standing, standing_to, stands_below};
 
-use desk::{Direction, Found, Key};
-use limits::PAGES;
-use parts::{Book, PageLine, Reply, Sought};
+use desk::{Direction, Key, Refusal};
+use parts::{Parts, Sought};
 
-// Where a call stands that needs an open page: on it, or refused.
-#[derive(Clone, Copy)]
-pub enum Stands {
-    On(usize),
-    Refused(u64),
-}
-
-// The tests that come first, 12, 1 and 6; 0 where the call goes on.
-pub fn early_refusal(good: bool, key: Key, sized: bool) -> u64
-    ensures { result ≡ early good (lawful_key key) sized }
+// The tests that come first, 12, 1 and 6.
+pub fn early_refusal(desk: &Parts, key: Key, sized: bool) -> Result<(), Refusal>
+    ensures { (result ≡ early (lawful (desk_of desk.now)) (lawful_key key) sized) × Whole desk.now }
 {
-    if !good {
-        return 12;
+    if !lawful::lawful_desk(desk) {
+        return Err(Refusal::UnlawfulDesk);
     }
     if !lawful::lawful_key(key) {
-        return 1;
+        return Err(Refusal::KeyOutOfRange);
     }
     if !sized {
-        return 6;
+        return Err(Refusal::WrongSize);
     }
-    0
+    Ok(())
 }
 
 // 12, 1 and 6, then the key's page or 2.
-pub fn page_for(good: bool, key: Key, sized: bool, pages: [PageLine; PAGES]) -> Stands
-    ensures { (result ≡ standing good (lawful_key key) sized (find_by (page_sought (Used key)) pages 0)) × stands_below
-        max_pages result }
+pub fn page_for(desk: &Parts, key: Key, sized: bool) -> Result<usize, Refusal>
+    ensures { (result ≡ standing (lawful (desk_of desk.now)) (lawful_key key) sized (page_found (desk_of desk.now) key))
+        × stands_below max_pages result × Whole desk.now }
 {
-    let early = early_refusal(good, key, sized);
-    let found = parts::find_page(pages, 0, Sought::Used(key));
-    if early != 0 {
-        return Stands::Refused(early);
-    }
-    let Found::At(i) = found else {
-        return Stands::Refused(2);
-    };
-    Stands::On(i)
-}
-
-// The state of a page that is open in a direction.
-pub fn state_for(direction: Direction) -> u64
-    ensures { result ≡ state_for direction }
-{
-    match direction {
-        Direction::Write => 1,
-        Direction::Read => 2,
-    }
+    early_refusal(desk, key, sized)?;
+    desk.find_page(Sought::Used(key)).ok_or(Refusal::NoPage)
 }
 
 // The same, then 7.
-pub fn page_to(
-    good: bool,
-    key: Key,
-    sized: bool,
-    pages: [PageLine; PAGES],
-    direction: Direction,
-) -> Stands
-    ensures { (result ≡ standing_to pages (state_for direction) (standing good (lawful_key key) sized
-        (find_by (page_sought (Used key)) pages 0)))
-        × stands_below max_pages result }
+pub fn page_to(desk: &Parts, key: Key, sized: bool, direction: Direction) -> Result<usize, Refusal>
+    ensures { (result ≡ standing_to desk.now.book.pages (state_for direction)
+        (standing (lawful (desk_of desk.now)) (lawful_key key) sized (page_found (desk_of desk.now) key)))
+        × stands_below max_pages result × Whole desk.now }
 {
-    let stands = page_for(good, key, sized, pages);
-    let Stands::On(i) = stands else {
-        return stands;
-    };
-    let page = pages[i];
-    if page.state != state_for(direction) {
-        return Stands::Refused(7);
+    let i = page_for(desk, key, sized)?;
+    if desk.book.pages[i].state != u64::from(direction) {
+        return Err(Refusal::OtherDirection);
     }
-    stands
-}
-
-// The refusal of a call that does not stand on a page.
-pub fn turned_away(stands: Stands, book: Book) -> Reply
-    ensures { result ≡ refused_by (number_of stands) book }
-{
-    match stands {
-        Stands::On(_) => parts::refused(0, book),
-        Stands::Refused(n) => parts::refused(n, book),
-    }
+    Ok(i)
 }

@@ -1,31 +1,38 @@
 -- The first three tests, then the search. Assumes nothing.
-use mathlib.Core.Path.{sym, ◌∙◌}
-use Rattle.desk.specs.Lawful.{lawful_key}
-use Rattle.refusals.proofs.StandingOn.{on-found, on_none, stopped, went_on}
+use mathlib.Core.Path.{sym, ap, ◌∙◌}
+use Rattle.std.specs.Prelude.{ok_or}
+use Rattle.limits.specs.Limits.{max_pages}
+use Rattle.std.proofs.lemmas.Result.{err_from_is_err_and}
+use Rattle.desk.specs.declared.Refusal.TheVariants.{NoPage}
+use Rattle.desk.specs.Lawful.{lawful_key, lawful}
+use Rattle.desk.specs.Places.{Found, page_found}
+use Rattle.parts.specs.declared.Sought.TheVariants.{Used}
+use Rattle.parts.specs.Parts.{desk_of}
+use Rattle.parts.proofs.Lines.{find-pages}
+use Rattle.refusals.proofs.StandingOn.{or-page, or-below, stopped, went_on}
 use Rattle.refusals.proofs.page_for.Goals as goal
 
-pub returns-then-early-ne0 : goal.returns-then-early-ne0
-returns-then-early-ne0 c = let a = c.args in (
-  stopped a.good (lawful_key a.key) a.sized _ c.early_refusal-early.result
-      c.early_refusal-early.ensures
-      c.if-early-ne0.true,
-  tt,
-)
-
-pub returns-in_default : goal.returns-in_default
-returns-in_default c = let a = c.args in (
-  on_none _ (sym c.find_page-found.ensures.0 ∙ c.in_default.is)
-      ∙ went_on a.good (lawful_key a.key) a.sized _
-      (sym c.early_refusal-early.ensures
-      ∙ c.if-early-ne0.false),
-  tt,
-)
+pub returns-in_err-early_refusal : goal.returns-in_err-early_refusal
+returns-in_err-early_refusal c =
+    let a = c.args in
+    let d = desk_of a.desk.now in
+    let p = err_from_is_err_and c.from_residual.result c.from_residual.ensures.1 in
+    rw (p.1, p.2) (
+      stopped (lawful d) (lawful_key a.key) a.sized (page_found d a.key) _ c.in_err-early_refusal.ensures.0,
+      tt,
+      c.in_err-early_refusal.ensures.1,
+    )
 
 pub returns : goal.returns
-returns c = let a = c.args in (
-  on-found _ _ (sym c.find_page-found.ensures.0 ∙ c.in-At.is)
-      ∙ went_on a.good (lawful_key a.key) a.sized _
-      (sym c.early_refusal-early.ensures
-      ∙ c.if-early-ne0.false),
-  rw c.in-At.is at c.find_page-found.ensures.1,
-)
+returns c =
+    let a = c.args in
+    let d = desk_of a.desk.now in
+    let early = c.in_ok-early_refusal.ensures in
+    let found = c.find_page.ensures in (
+      c.ok_or.ensures.value
+          ∙ ap (λ (f : Found). ok_or f NoPage) (found.0 ∙ sym (find-pages a.desk.now early.1 (Used a.key)))
+          ∙ or-page (page_found d a.key)
+          ∙ went_on (lawful d) (lawful_key a.key) a.sized (page_found d a.key) _ early.0,
+      rw c.ok_or.ensures.value (or-below max_pages c.find_page.result found.1),
+      early.1,
+    )
