@@ -5,17 +5,18 @@
 ghost use Rattle.parts.specs.Parts.{Sized};
 
 use limits::{CONTEXTS, PAGES, PLACES, ROW};
+use lines::{Hex, Numbers, band_of, key_of, page_of};
 use parts::Book;
 use std::io;
 
-fn width_line(rt: &impl Print, name: &[u8], width: u64) -> io::Result<()> {
+fn width_line(rt: &impl Print, name: &str, width: u64) -> io::Result<()> {
     let mut working = [[0u8; CONTEXTS]; PAGES];
     let mut rows = [[0u8; ROW]; PAGES];
     let mut learned = [[0u8; CONTEXTS]; PLACES];
     let book = parts::emptied(&mut working, &mut rows, &mut learned);
-    let ask = lines::page_of(lines::key_of(1, 1), width);
+    let ask = page_of(key_of(1, 1), width);
     let opened = opening::open(book, &mut working, &mut rows, &mut learned, ask);
-    lines::line(rt, name, opened.answer)
+    println!(rt; "{name}: {}", Numbers(opened.answer))
 }
 
 // An empty desk with a page of that width for (school 1, class 1).
@@ -28,25 +29,19 @@ fn new_page<'a>(
     ensures { Sized working.new rows.new learned.new }
 {
     let book = parts::emptied(working, rows, learned);
-    let opened = opening::open(
-        book,
-        working,
-        rows,
-        learned,
-        lines::page_of(lines::key_of(1, 1), width),
-    );
+    let opened = opening::open(book, working, rows, learned, page_of(key_of(1, 1), width));
     opened.book
 }
 
 // White rows, so many bytes in all.
-fn rows_line(rt: &impl Print, name: &[u8], width: u64, count: u64, bytes: usize) -> io::Result<()> {
+fn rows_line(rt: &impl Print, name: &str, width: u64, count: u64, bytes: usize) -> io::Result<()> {
     let mut working = [[0u8; CONTEXTS]; PAGES];
     let mut rows = [[0u8; ROW]; PAGES];
     let mut learned = [[0u8; CONTEXTS]; PLACES];
     let book = new_page(width, &mut working, &mut rows, &mut learned);
     let pels = [0u8; 64 * ROW];
     let mut out = [0u8; 64];
-    let ask = lines::band_of(lines::key_of(1, 1), count);
+    let ask = band_of(key_of(1, 1), count);
     let band = store::front_of(&pels, bytes);
     let wrote = writing::write(
         book,
@@ -57,7 +52,7 @@ fn rows_line(rt: &impl Print, name: &[u8], width: u64, count: u64, bytes: usize)
         band,
         &mut out,
     );
-    lines::line(rt, name, wrote.answer)
+    println!(rt; "{name}: {}", Numbers(wrote.answer))
 }
 
 // A desk on which classes 1 to n have each been opened; each is closed again where that is asked.
@@ -71,19 +66,11 @@ fn with_classes<'a>(
     ensures { Sized working.new rows.new learned.new }
 {
     let mut book = parts::emptied(working, rows, learned);
-    let mut i: u64 = 0;
-    while i < n {
-        i += 1;
-        let opened = opening::open(
-            book,
-            working,
-            rows,
-            learned,
-            lines::page_of(lines::key_of(1, i), 1),
-        );
+    for class in 1..=n {
+        let opened = opening::open(book, working, rows, learned, page_of(key_of(1, class), 1));
         book = opened.book;
         if closed {
-            let gone = closing::close(book, working, rows, learned, lines::key_of(1, i));
+            let gone = closing::close(book, working, rows, learned, key_of(1, class));
             book = gone.book;
         }
     }
@@ -91,20 +78,20 @@ fn with_classes<'a>(
 }
 
 // One class more than the n that the desk has seen.
-fn one_more(rt: &impl Print, name: &[u8], n: u64, closed: bool) -> io::Result<()> {
+fn one_more(rt: &impl Print, name: &str, n: u64, closed: bool) -> io::Result<()> {
     let mut working = [[0u8; CONTEXTS]; PAGES];
     let mut rows = [[0u8; ROW]; PAGES];
     let mut learned = [[0u8; CONTEXTS]; PLACES];
     let book = with_classes(&mut working, &mut rows, &mut learned, n, closed);
-    let ask = lines::page_of(lines::key_of(1, 100), 1);
+    let ask = page_of(key_of(1, 100), 1);
     let opened = opening::open(book, &mut working, &mut rows, &mut learned, ask);
-    lines::line(rt, name, opened.answer)
+    println!(rt; "{name}: {}", Numbers(opened.answer))
 }
 
 // A row on a new page of that width, into a buffer, which is then shown.
 fn buffer_line(
     rt: &impl Print,
-    name: &[u8],
+    name: &str,
     width: u64,
     row: &[u8],
     out: &mut [u8],
@@ -113,32 +100,28 @@ fn buffer_line(
     let mut rows = [[0u8; ROW]; PAGES];
     let mut learned = [[0u8; CONTEXTS]; PLACES];
     let book = new_page(width, &mut working, &mut rows, &mut learned);
-    let ask = lines::band_of(lines::key_of(1, 1), 1);
+    let ask = band_of(key_of(1, 1), 1);
     let wrote = writing::write(book, &mut working, &mut rows, &mut learned, ask, row, out);
-    lines::put_text(rt, name)?;
-    lines::put_answer(rt, wrote.answer)?;
-    lines::put_text(rt, b", buffer")?;
-    lines::put_bytes(rt, out)?;
-    lines::put_text(rt, b"\n")
+    println!(rt; "{name}: {}, buffer{}", Numbers(wrote.answer), Hex(out))
 }
 
 fn main(rt: HostRuntime) -> io::Result<()> {
-    width_line(&rt, b"Width 2,048", 2048)?;
-    width_line(&rt, b"Width 2,049", 2049)?;
-    rows_line(&rt, b"64 rows", 1, 64, 64)?;
-    rows_line(&rt, b"65 rows", 1, 65, 65)?;
-    rows_line(&rt, b"5 white pels", 5, 1, 1)?;
-    rows_line(&rt, b"64 white rows of 2,048 pels", 2048, 64, 64 * ROW)?;
-    one_more(&rt, b"Fourth open page", 3, false)?;
-    one_more(&rt, b"Fifth open page", 4, false)?;
-    one_more(&rt, b"Eighth class", 7, true)?;
-    one_more(&rt, b"Ninth class", 8, true)?;
+    width_line(&rt, "Width 2,048", 2048)?;
+    width_line(&rt, "Width 2,049", 2049)?;
+    rows_line(&rt, "64 rows", 1, 64, 64)?;
+    rows_line(&rt, "65 rows", 1, 65, 65)?;
+    rows_line(&rt, "5 white pels", 5, 1, 1)?;
+    rows_line(&rt, "64 white rows of 2,048 pels", 2048, 64, 64 * ROW)?;
+    one_more(&rt, "Fourth open page", 3, false)?;
+    one_more(&rt, "Fifth open page", 4, false)?;
+    one_more(&rt, "Eighth class", 7, true)?;
+    one_more(&rt, "Ninth class", 8, true)?;
     let mut both = [255u8; 2];
-    buffer_line(&rt, b"P1 into 2 bytes", 1, b"\x00", &mut both)?;
+    buffer_line(&rt, "P1 into 2 bytes", 1, b"\x00", &mut both)?;
     let mut short = [255u8; 1];
-    buffer_line(&rt, b"P1 into 1 byte", 1, b"\x00", &mut short)?;
+    buffer_line(&rt, "P1 into 1 byte", 1, b"\x00", &mut short)?;
     let mut four = [255u8; 4];
-    buffer_line(&rt, b"E6 60 into 4 bytes", 13, b"\xE6\x60", &mut four)?;
+    buffer_line(&rt, "E6 60 into 4 bytes", 13, b"\xE6\x60", &mut four)?;
     let mut three = [255u8; 3];
-    buffer_line(&rt, b"E6 60 into 3 bytes", 13, b"\xE6\x60", &mut three)
+    buffer_line(&rt, "E6 60 into 3 bytes", 13, b"\xE6\x60", &mut three)
 }

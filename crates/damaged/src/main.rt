@@ -4,17 +4,16 @@
 
 ghost use Rattle.parts.specs.Parts.{Sized};
 
-use desk::{Ask, Direction, Key, Opening};
+use desk::{Direction, Key, Opening};
 use limits::{CONTEXTS, PAGES, PLACES, ROW};
+use lines::{Hex, Numbers, band_of};
 use parts::Book;
 use std::io;
 
-fn the_key() -> Key {
-    Key {
-        school: 1,
-        class: 1,
-    }
-}
+const KEY: Key = Key {
+    school: 1,
+    class: 1,
+};
 
 // An empty desk with a page of that width, open to read.
 fn new_page<'a>(
@@ -27,7 +26,7 @@ fn new_page<'a>(
 {
     let book = parts::emptied(working, rows, learned);
     let ask = Opening {
-        key: the_key(),
+        key: KEY,
         direction: Direction::Read,
         width: width,
     };
@@ -38,7 +37,7 @@ fn new_page<'a>(
 // The line of one code: its name and bytes, the answer's number, length and S, and the buffer of two bytes after it.
 fn line<'a, 'b, 'c>(
     rt: &impl Print,
-    name: &'b [u8],
+    name: &'b str,
     book: Book,
     working: &'a mut [[u8; CONTEXTS]; PAGES],
     rows: &'a mut [[u8; ROW]; PAGES],
@@ -49,22 +48,19 @@ fn line<'a, 'b, 'c>(
     ensures { Sized working.new rows.new learned.new }
 {
     let mut out = [255u8; 2];
-    let ask = Ask {
-        key: the_key(),
-        rows: 1,
-    };
+    let ask = band_of(KEY, 1);
     let read = reading::read(book, working, rows, learned, ask, code, &mut out);
-    lines::put_text(rt, name)?;
-    lines::put_bytes(rt, code)?;
-    lines::put_answer(rt, read.answer)?;
-    lines::put_text(rt, b", buffer")?;
-    lines::put_bytes(rt, &out)?;
-    lines::put_text(rt, b"\n")?;
+    println!(rt;
+        "{name}{}: {}, buffer{}",
+        Hex(code),
+        Numbers(read.answer),
+        Hex(&out)
+    )?;
     Ok(read.book)
 }
 
 // A code on a new page of that width.
-fn of_width(rt: &impl Print, width: u64, name: &[u8], code: &[u8]) -> io::Result<()> {
+fn of_width(rt: &impl Print, width: u64, name: &str, code: &[u8]) -> io::Result<()> {
     let mut working = [[0u8; CONTEXTS]; PAGES];
     let mut rows = [[0u8; ROW]; PAGES];
     let mut learned = [[0u8; CONTEXTS]; PLACES];
@@ -74,21 +70,15 @@ fn of_width(rt: &impl Print, width: u64, name: &[u8], code: &[u8]) -> io::Result
 }
 
 // A code on a new page of width 1.
-fn first(rt: &impl Print, name: &[u8], code: &[u8]) -> io::Result<()> {
+fn first(rt: &impl Print, name: &str, code: &[u8]) -> io::Result<()> {
     of_width(rt, 1, name, code)
 }
 
 // P1's code with one bit flipped, at each of its 16 positions.
 fn flips(rt: &impl Print) -> io::Result<()> {
-    let mut bit: u8 = 128;
-    while bit > 0 {
-        first(rt, b"P1, one bit flipped,", &[0xAC ^ bit, 0x10])?;
-        bit /= 2;
-    }
-    bit = 128;
-    while bit > 0 {
-        first(rt, b"P1, one bit flipped,", &[0xAC, 0x10 ^ bit])?;
-        bit /= 2;
+    for bit in 0..16u32 {
+        let code = (0xAC10u16 ^ (0x8000 >> bit)).to_be_bytes();
+        first(rt, "P1, one bit flipped,", &code)?;
     }
     Ok(())
 }
@@ -101,7 +91,7 @@ fn sent_again(rt: &impl Print) -> io::Result<()> {
     let a = new_page(1, &mut working, &mut rows, &mut learned);
     let b = line(
         rt,
-        b"Damaged on its way,",
+        "Damaged on its way,",
         a,
         &mut working,
         &mut rows,
@@ -110,7 +100,7 @@ fn sent_again(rt: &impl Print) -> io::Result<()> {
     )?;
     line(
         rt,
-        b"Sent again,",
+        "Sent again,",
         b,
         &mut working,
         &mut rows,
@@ -122,33 +112,28 @@ fn sent_again(rt: &impl Print) -> io::Result<()> {
 
 // A marker is a byte of 90 or more just after an FF, wherever it stands. It is told where there is room for the row.
 fn markers(rt: &impl Print) -> io::Result<()> {
-    first(rt, b"FF 8F in place of P1,", b"\xFF\x8F")?;
-    first(rt, b"FF 90 in place of P1,", b"\xFF\x90")?;
-    first(rt, b"P1, FF 8F in it,", b"\xAC\xFF\x8F\x10")?;
-    first(rt, b"P1, FF 90 in it,", b"\xAC\xFF\x90\x10")?;
-    first(rt, b"P1, FF 90 after it,", b"\xAC\x10\xFF\x90")?;
-    first(rt, b"P1, FF FF after it,", b"\xAC\x10\xFF\xFF")?;
-    first(rt, b"P1, FF after it,", b"\xAC\x10\xFF")?;
-    of_width(rt, 17, b"FF 90 in 17 pels,", b"\xFF\x90")
+    first(rt, "FF 8F in place of P1,", b"\xFF\x8F")?;
+    first(rt, "FF 90 in place of P1,", b"\xFF\x90")?;
+    first(rt, "P1, FF 8F in it,", b"\xAC\xFF\x8F\x10")?;
+    first(rt, "P1, FF 90 in it,", b"\xAC\xFF\x90\x10")?;
+    first(rt, "P1, FF 90 after it,", b"\xAC\x10\xFF\x90")?;
+    first(rt, "P1, FF FF after it,", b"\xAC\x10\xFF\xFF")?;
+    first(rt, "P1, FF after it,", b"\xAC\x10\xFF")?;
+    of_width(rt, 17, "FF 90 in 17 pels,", b"\xFF\x90")
 }
 
 fn main(rt: HostRuntime) -> io::Result<()> {
-    first(&rt, b"P1,", b"\xAC\x10")?;
-    first(&rt, b"P2,", b"\x00\x00")?;
-    first(&rt, b"P1, last byte one more,", b"\xAC\x11")?;
-    first(&rt, b"P2, a zero byte more,", b"\x00\x00\x00")?;
-    first(&rt, b"The empty code", b"")?;
-    first(&rt, b"P1, cut by one byte,", b"\xAC")?;
-    first(&rt, b"P1, a zero byte more,", b"\xAC\x10\x00")?;
+    first(&rt, "P1,", b"\xAC\x10")?;
+    first(&rt, "P2,", b"\x00\x00")?;
+    first(&rt, "P1, last byte one more,", b"\xAC\x11")?;
+    first(&rt, "P2, a zero byte more,", b"\x00\x00\x00")?;
+    first(&rt, "The empty code", b"")?;
+    first(&rt, "P1, cut by one byte,", b"\xAC")?;
+    first(&rt, "P1, a zero byte more,", b"\xAC\x10\x00")?;
     flips(&rt)?;
     markers(&rt)?;
     sent_again(&rt)?;
-    of_width(&rt, 13, b"E6 60 in 13 pels,", b"\x15\x6E\xFF\x00")?;
-    of_width(&rt, 13, b"E6 60, FF not followed by 00,", b"\x15\x6E\xFF")?;
-    of_width(
-        &rt,
-        13,
-        b"E6 60, a zero byte more,",
-        b"\x15\x6E\xFF\x00\x00",
-    )
+    of_width(&rt, 13, "E6 60 in 13 pels,", b"\x15\x6E\xFF\x00")?;
+    of_width(&rt, 13, "E6 60, FF not followed by 00,", b"\x15\x6E\xFF")?;
+    of_width(&rt, 13, "E6 60, a zero byte more,", b"\x15\x6E\xFF\x00\x00")
 }

@@ -9,19 +9,18 @@ ghost use Rattle.template.specs.Pels.{row_bytes};
 
 use estimate::Table;
 use limits::{CONTEXTS, ROW};
+use lines::Hex;
 use std::io;
 use writer::Wrote;
 
 // The line of one band by one engine.
-fn line(rt: &impl Print, name: &[u8], engine: &[u8], code: &[u8], wrote: Wrote) -> io::Result<()> {
-    lines::put_text(rt, name)?;
-    lines::put_text(rt, engine)?;
-    lines::put_bytes(rt, store::front_of(code, wrote.length))?;
-    lines::put_text(rt, b" S=")?;
-    lines::put_number(rt, wrote.shifts)?;
-    lines::put_text(rt, b" revisited=")?;
-    lines::put_number(rt, wrote.revisits)?;
-    lines::put_text(rt, b"\n")
+fn line(rt: &impl Print, name: &str, engine: &str, code: &[u8], wrote: Wrote) -> io::Result<()> {
+    println!(rt;
+        "{name} {engine}{} S={} revisited={}",
+        Hex(store::front_of(code, wrote.length)),
+        wrote.shifts,
+        wrote.revisits
+    )
 }
 
 // The table of a new page.
@@ -34,7 +33,7 @@ fn fresh() -> Table
 }
 
 // One band by both.
-fn both(rt: &impl Print, name: &[u8], width: usize, rows: usize, pels: &[u8]) -> io::Result<()>
+fn both(rt: &impl Print, name: &str, width: usize, rows: usize, pels: &[u8]) -> io::Result<()>
     requires { (1 ≤ width) × (width ≤ max_width) × (1 ≤ rows) × (rows ≤ max_rows)
         × (length pels.now ≡ rows * row_bytes width) }
 {
@@ -42,29 +41,29 @@ fn both(rt: &impl Print, name: &[u8], width: usize, rows: usize, pels: &[u8]) ->
     let last = [0u8; ROW];
     let mut out = [0u8; 32];
     let first = writer::write_by(table, last, width, rows, pels, &mut out, false);
-    line(rt, name, b" first: ", &out, first)?;
+    line(rt, name, "first: ", &out, first)?;
     let second = writer::write_by(table, last, width, rows, pels, &mut out, true);
-    line(rt, name, b" second:", &out, second)
+    line(rt, name, "second:", &out, second)
 }
 
 fn main(rt: HostRuntime) -> io::Result<()> {
-    both(&rt, b"P1", 1, 1, b"\x00")?;
-    both(&rt, b"P2", 1, 1, b"\x80")?;
-    both(&rt, b"P3", 2, 1, b"\x00")?;
-    both(&rt, b"P4", 2, 1, b"\x40")?;
-    both(&rt, b"P5", 2, 1, b"\x80")?;
-    both(&rt, b"P6", 2, 1, b"\xC0")?;
-    both(&rt, b"P8", 1, 2, b"\x00\x00")?;
+    both(&rt, "P1", 1, 1, b"\x00")?;
+    both(&rt, "P2", 1, 1, b"\x80")?;
+    both(&rt, "P3", 2, 1, b"\x00")?;
+    both(&rt, "P4", 2, 1, b"\x40")?;
+    both(&rt, "P5", 2, 1, b"\x80")?;
+    both(&rt, "P6", 2, 1, b"\xC0")?;
+    both(&rt, "P8", 1, 2, b"\x00\x00")?;
     both(
         &rt,
-        b"a carry in a stuff bit",
+        "a carry in a stuff bit",
         32,
         4,
         b"\xB6\x16\xB4\xD6\x1E\xF2\x90\x21\xFE\x64\xCB\x11\xB8\x02\x03\xC4",
     )?;
     both(
         &rt,
-        b"a last FF",
+        "a last FF",
         32,
         4,
         b"\x25\x64\x8D\x68\xA0\x56\xA5\xAB\x81\x75\xB9\xD6\x90\x98\xC9\xE4",

@@ -1,73 +1,69 @@
-// What the programs ask, and what they write: text, numbers, bytes in hexadecimal, answers.
+// What the programs ask, and what they print of the answers: text, numbers, bytes in hexadecimal.
 #![tactic(auto)]
 
+ghost use Rattle.std.specs.Prelude.{◌≡◌, Some};
+ghost use Rattle.desk.specs.Asked.{as_key, to_write, ask_of};
+ghost use Rattle.lines.specs.Lines.{hex_text, answer_text};
+
 use desk::{Answer, Ask, Direction, Key, Opening};
-use std::io;
+use std::fmt;
 
-const DIGITS: [u8; 16] = *b"0123456789ABCDEF";
+// Bytes in hexadecimal: for each a space, then its two digits.
+#[derive(Clone, Copy)]
+pub struct Hex<'a>(pub &'a [u8]);
 
-pub fn put_text(rt: &impl Print, text: &[u8]) -> io::Result<()> {
-    rt.write_all(text)
-}
+impl<'a> fmt::Display for Hex<'a> {
+    ghost output = { λ h. Some (hex_text h.0.now) };
 
-pub fn put_number(rt: &impl Print, n: u64) -> io::Result<()> {
-    print!(rt; "{n}")
-}
-
-// A space, then the byte's two digits.
-pub fn put_hex(rt: &impl Print, b: u8) -> io::Result<()> {
-    let text = [b' ', DIGITS[(b / 16) as usize], DIGITS[(b % 16) as usize]];
-    put_text(rt, &text)
-}
-
-pub fn put_bytes(rt: &impl Print, bytes: &[u8]) -> io::Result<()> {
-    let mut i: usize = 0;
-    while i < bytes.len() {
-        put_hex(rt, bytes[i])?;
-        i += 1;
+    fn fmt<W: fmt::Write>(&self, f: &mut fmt::Formatter<W>) -> fmt::Result {
+        for &b in self.0 {
+            write!(f, " {b:02X}")?;
+        }
+        Ok(())
     }
-    Ok(())
 }
 
-// What follows the name of what was asked.
-pub fn put_answer(rt: &impl Print, a: Answer) -> io::Result<()> {
-    put_text(rt, b": answer ")?;
-    put_number(rt, a.number)?;
-    put_text(rt, b", length ")?;
-    put_number(rt, a.length)?;
-    put_text(rt, b", S ")?;
-    put_number(rt, a.shifts)?;
-    put_text(rt, b", revisits ")?;
-    put_number(rt, a.revisits)
-}
+// The four numbers that a call answers.
+#[derive(Clone, Copy)]
+pub struct Numbers(pub Answer);
 
-pub fn key_of(school: u64, class: u64) -> Key {
-    Key {
-        school: school,
-        class: class,
+impl fmt::Display for Numbers {
+    ghost output = { λ n. Some (answer_text n.0) };
+
+    fn fmt<W: fmt::Write>(&self, f: &mut fmt::Formatter<W>) -> fmt::Result {
+        let Answer {
+            number,
+            length,
+            shifts,
+            revisits,
+        } = self.0;
+        write!(
+            f,
+            "answer {number}, length {length}, S {shifts}, revisits {revisits}"
+        )
     }
+}
+
+pub fn key_of(school: u64, class: u64) -> Key
+    ensures { result ≡ as_key school class }
+{
+    Key { school, class }
 }
 
 // A page to write, of that width.
-pub fn page_of(key: Key, width: u64) -> Opening {
+pub fn page_of(key: Key, width: u64) -> Opening
+    ensures { result ≡ to_write key.school key.class width }
+{
     Opening {
-        key: key,
+        key,
         direction: Direction::Write,
-        width: width,
+        width,
     }
 }
 
 // A band of that many rows.
-pub fn band_of(key: Key, count: u64) -> Ask {
-    Ask {
-        key: key,
-        rows: count,
-    }
-}
-
-// A line: the name of what was asked, and the answer.
-pub fn line(rt: &impl Print, name: &[u8], a: Answer) -> io::Result<()> {
-    put_text(rt, name)?;
-    put_answer(rt, a)?;
-    put_text(rt, b"\n")
+pub fn band_of(key: Key, count: u64) -> Ask
+    ensures { result ≡ ask_of key.school key.class count }
+{
+    Ask { key, rows: count }
 }

@@ -5,22 +5,23 @@ ghost use Rattle.parts.specs.Parts.{Sized};
 
 use desk::Key;
 use limits::{CONTEXTS, PAGES, PLACES, ROW};
+use lines::{Hex, Numbers, band_of, key_of, page_of};
 use parts::Book;
-use std::io;
+use std::{fmt, io};
 
-// The contexts whose byte is not 00.
-fn put_contexts(rt: &impl Print, table: &[u8]) -> io::Result<()> {
-    let mut i: usize = 0;
-    while i < table.len() {
-        if table[i] != 0 {
-            lines::put_text(rt, b", context ")?;
-            lines::put_number(rt, i as u64)?;
-            lines::put_text(rt, b" is")?;
-            lines::put_hex(rt, table[i])?;
+// The contexts of a table whose byte is not 00.
+#[derive(Clone, Copy)]
+struct Contexts<'a>(&'a [u8]);
+
+impl<'a> fmt::Display for Contexts<'a> {
+    fn fmt<W: fmt::Write>(&self, f: &mut fmt::Formatter<W>) -> fmt::Result {
+        for (cx, &b) in self.0.iter().enumerate() {
+            if b != 0 {
+                write!(f, ", context {cx} is {b:02X}")?;
+            }
         }
-        i += 1;
+        write!(f, ", elsewhere 00")
     }
-    lines::put_text(rt, b", elsewhere 00")
 }
 
 // An empty desk with a page of width 1 for (school 1, class 1).
@@ -32,20 +33,14 @@ fn new_page<'a>(
     ensures { Sized working.new rows.new learned.new }
 {
     let book = parts::emptied(working, rows, learned);
-    let opened = opening::open(
-        book,
-        working,
-        rows,
-        learned,
-        lines::page_of(lines::key_of(1, 1), 1),
-    );
+    let opened = opening::open(book, working, rows, learned, page_of(key_of(1, 1), 1));
     opened.book
 }
 
 // One band of one row, its code shown; the book after it.
 fn code_line<'a, 'b, 'c>(
     rt: &impl Print,
-    name: &'b [u8],
+    name: &'b str,
     book: Book,
     working: &'a mut [[u8; CONTEXTS]; PAGES],
     rows: &'a mut [[u8; ROW]; PAGES],
@@ -62,15 +57,15 @@ fn code_line<'a, 'b, 'c>(
         working,
         rows,
         learned,
-        lines::band_of(key, 1),
+        band_of(key, 1),
         pels,
         &mut out,
     );
-    lines::put_text(rt, name)?;
-    lines::put_answer(rt, wrote.answer)?;
-    lines::put_text(rt, b", code")?;
-    lines::put_bytes(rt, store::front_of(&out, wrote.answer.length as usize))?;
-    lines::put_text(rt, b"\n")?;
+    println!(rt;
+        "{name}: {}, code{}",
+        Numbers(wrote.answer),
+        Hex(store::front_of(&out, wrote.answer.length as usize))
+    )?;
     Ok(wrote.book)
 }
 
@@ -84,22 +79,10 @@ fn both_opened<'a>(
     ensures { Sized working.new rows.new learned.new }
 {
     let book = parts::emptied(working, rows, learned);
-    let a = opening::open(
-        book,
-        working,
-        rows,
-        learned,
-        lines::page_of(lines::key_of(1, 5), 1),
-    );
-    lines::line(rt, b"School 1, class 5 opened", a.answer)?;
-    let b = opening::open(
-        a.book,
-        working,
-        rows,
-        learned,
-        lines::page_of(lines::key_of(2, 5), 1),
-    );
-    lines::line(rt, b"School 2, class 5 opened beside it", b.answer)?;
+    let a = opening::open(book, working, rows, learned, page_of(key_of(1, 5), 1));
+    println!(rt; "School 1, class 5 opened: {}", Numbers(a.answer))?;
+    let b = opening::open(a.book, working, rows, learned, page_of(key_of(2, 5), 1));
+    println!(rt; "School 2, class 5 opened beside it: {}", Numbers(b.answer))?;
     Ok(b.book)
 }
 
@@ -110,12 +93,12 @@ fn two_schools<'a>(
     rows: &'a mut [[u8; ROW]; PAGES],
     learned: &'a mut [[u8; CONTEXTS]; PLACES],
 ) -> io::Result<()> {
-    let one = lines::key_of(1, 5);
-    let two = lines::key_of(2, 5);
+    let one = key_of(1, 5);
+    let two = key_of(2, 5);
     let a = both_opened(rt, working, rows, learned)?;
     let b = code_line(
         rt,
-        b"P2 by school 1",
+        "P2 by school 1",
         a,
         working,
         rows,
@@ -125,7 +108,7 @@ fn two_schools<'a>(
     )?;
     let c = code_line(
         rt,
-        b"P1 by school 2",
+        "P1 by school 2",
         b,
         working,
         rows,
@@ -135,7 +118,7 @@ fn two_schools<'a>(
     )?;
     let d = code_line(
         rt,
-        b"P9 by school 1",
+        "P9 by school 1",
         c,
         working,
         rows,
@@ -145,7 +128,7 @@ fn two_schools<'a>(
     )?;
     code_line(
         rt,
-        b"P7 by school 2",
+        "P7 by school 2",
         d,
         working,
         rows,
@@ -159,7 +142,7 @@ fn two_schools<'a>(
 // The page is closed, and its class's table looked at.
 fn look_line<'a, 'b>(
     rt: &impl Print,
-    name: &'b [u8],
+    name: &'b str,
     book: Book,
     working: &'a mut [[u8; CONTEXTS]; PAGES],
     rows: &'a mut [[u8; ROW]; PAGES],
@@ -168,19 +151,9 @@ fn look_line<'a, 'b>(
     requires { Sized working.old rows.old learned.old }
 {
     let mut out = [255u8; CONTEXTS];
-    let closed = closing::close(book, working, rows, learned, lines::key_of(1, 1));
-    let seen = tables::look(
-        closed.book,
-        working,
-        rows,
-        learned,
-        lines::key_of(1, 1),
-        &mut out,
-    );
-    lines::put_text(rt, name)?;
-    lines::put_answer(rt, seen.answer)?;
-    put_contexts(rt, &out)?;
-    lines::put_text(rt, b"\n")
+    let closed = closing::close(book, working, rows, learned, key_of(1, 1));
+    let seen = tables::look(closed.book, working, rows, learned, key_of(1, 1), &mut out);
+    println!(rt; "{name}: {}{}", Numbers(seen.answer), Contexts(&out))
 }
 
 // Each look starts from an empty desk.
@@ -190,13 +163,13 @@ fn look_after_p1<'a>(
     rows: &'a mut [[u8; ROW]; PAGES],
     learned: &'a mut [[u8; CONTEXTS]; PLACES],
 ) -> io::Result<()> {
-    let ask = lines::band_of(lines::key_of(1, 1), 1);
+    let ask = band_of(key_of(1, 1), 1);
     let mut out = [0u8; 8];
     let a = new_page(working, rows, learned);
     let p1 = writing::write(a, working, rows, learned, ask, b"\x00", &mut out);
     look_line(
         rt,
-        b"Look after P1 and close",
+        "Look after P1 and close",
         p1.book,
         working,
         rows,
@@ -210,14 +183,14 @@ fn look_after_p9<'a>(
     rows: &'a mut [[u8; ROW]; PAGES],
     learned: &'a mut [[u8; CONTEXTS]; PLACES],
 ) -> io::Result<()> {
-    let ask = lines::band_of(lines::key_of(1, 1), 1);
+    let ask = band_of(key_of(1, 1), 1);
     let mut out = [0u8; 8];
     let a = new_page(working, rows, learned);
     let p2 = writing::write(a, working, rows, learned, ask, b"\x80", &mut out);
     let p9 = writing::write(p2.book, working, rows, learned, ask, b"\x80", &mut out);
     look_line(
         rt,
-        b"Look after P2, P9 and close",
+        "Look after P2, P9 and close",
         p9.book,
         working,
         rows,
