@@ -7,7 +7,7 @@ ghost use Rattle.interval.specs.Interval.{decision, part_of, doublings};
 ghost use Rattle.octets.specs.Octets.{start, pel, byte, finish, follows, ended};
 ghost use Rattle.octets.specs.Fit.{Rest, Ready};
 ghost use Rattle.octets.specs.Loops.{steps};
-ghost use Rattle.octets.specs.Lift.{Out, Small, lift, settled_of, there};
+ghost use Rattle.octets.specs.Lift.{Out, Small, lift, bytes_of, settled_of, there};
 ghost use Rattle.octets.specs.Runs.{still_by};
 ghost use Rattle.octets.specs.Stills.{Stills};
 ghost use Rattle.octets.specs.CoderStills.{CanStill, coder_stills};
@@ -39,6 +39,18 @@ pub enum Settled {
     Nothing,
     One(u8),
     Two(u8, u8),
+}
+
+impl Settled {
+    pub fn len(self) -> usize
+        ensures { result ≡ length (bytes_of self) }
+    {
+        match self {
+            Settled::Nothing => 0,
+            Settled::One(_) => 1,
+            Settled::Two(_, _) => 2,
+        }
+    }
 }
 
 // What a pel gives: the registers, its shifts, and the bytes that it settled.
