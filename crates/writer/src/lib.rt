@@ -126,8 +126,8 @@ pub fn write_by(
     let run = write_rows(band, last, table, out, top);
     let shifts = run.coder.interval.count;
     let end = run.coder.finish();
-    let bytes = end.bytes;
-    let n = store::put_last(out, run.at, bytes, end.count) - 1;
+    let bytes = end.as_slice();
+    let n = store::put_last(out, run.at, bytes) - 1;
     if !has_room(n, out.len()) {
         store::clear(out);
         return None;
