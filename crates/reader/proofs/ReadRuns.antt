@@ -24,7 +24,7 @@ use Rattle.sight.specs.Still.{view_by}
 use Rattle.sight.proofs.Still.{view-none, view-more, still_told, told-still}
 use Rattle.top.specs.declared.Top.{Top}
 use Rattle.top.specs.Top.{narrowed}
-use Rattle.top.specs.TopStills.{narrowed_none, narrowed-more}
+use Rattle.top.specs.TopLaws.{narrowed_none, narrowed-more}
 use Rattle.row.specs.AnyEngine.{given, still_pel}
 use Rattle.row.specs.TopEngine.{top_engine}
 use Rattle.row.proofs.TopEngine.{top_is_engine, top_seven}
