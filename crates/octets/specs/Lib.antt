@@ -4,5 +4,5 @@ pub mod Fit
 pub mod Loops
 pub mod Lift
 pub mod Runs
-pub mod Stills
-pub mod CoderStills
+pub mod EngineLaws
+pub mod CoderLaws

@@ -7,10 +7,10 @@ ghost use Rattle.interval.specs.Interval.{decision, part_of, doublings};
 ghost use Rattle.octets.specs.Octets.{start, pel, byte, finish, follows, ended};
 ghost use Rattle.octets.specs.Fit.{Rest, Ready};
 ghost use Rattle.octets.specs.Loops.{steps};
-ghost use Rattle.octets.specs.Lift.{Out, Small, lift, settled_of, there};
+ghost use Rattle.octets.specs.Lift.{Out, Small, lift, bytes_of, settled_of, there};
 ghost use Rattle.octets.specs.Runs.{still_by};
-ghost use Rattle.octets.specs.Stills.{Stills};
-ghost use Rattle.octets.specs.CoderStills.{CanStill, coder_stills};
+ghost use Rattle.octets.specs.EngineLaws.{EngineLaws};
+ghost use Rattle.octets.specs.CoderLaws.{CanStill, coder_laws};
 ghost use Rattle.octets.specs.declared.Coder.{Coder};
 
 use interval::Interval;
@@ -39,6 +39,19 @@ pub enum Settled {
     Nothing,
     One(u8),
     Two(u8, u8),
+}
+
+impl Settled {
+    // How many they are.
+    pub fn len(self) -> usize
+        ensures { result ≡ length (bytes_of self) }
+    {
+        match self {
+            Settled::Nothing => 0,
+            Settled::One(_) => 1,
+            Settled::Two(_, _) => 2,
+        }
+    }
 }
 
 // What a pel gives: the registers, its shifts, and the bytes that it settled.
@@ -141,7 +154,8 @@ pub fn settle(next: Interval, held: u64, j: u64, k: u64) -> Put<Coder>
     }
 }
 
-// The registers of an engine. They stand for a coder, whose code string points at the bottom of the interval.
+// The registers of an engine, wherever in the interval its code string points: they stand for a coder, which is what
+// they say with the string at the bottom.
 pub trait Engine: Copy {
     // the coder that they stand for, and the registers that stand for a coder
     ghost bottom_of: { Self → Coder };
@@ -166,6 +180,7 @@ pub trait Engine: Copy {
         requires { Sound self }
         ensures { result ≡ bottom_of self };
 
+    // The width of the interval.
     fn width(self) -> u64
         ensures { result ≡ (bottom_of self).interval.width };
 
@@ -182,7 +197,7 @@ pub trait Engine: Copy {
             (settled_of result)) × Sound result.coder
             × (result.shifts ≡ doublings 12 (part_of (decision q expected) (bottom_of self).interval).width) };
 
-    ghost stills: { Stills bottom_of above_of Sound CanStill after_still };
+    ghost laws: { EngineLaws bottom_of above_of Sound CanStill after_still };
 }
 
 // The first engine: the string stays at the bottom.
@@ -197,7 +212,7 @@ impl Engine for Coder {
 
     ghost after_still = { still_by };
 
-    ghost stills = { coder_stills };
+    ghost laws = { coder_laws };
 
     fn above(c: Coder) -> Self {
         c

@@ -21,7 +21,7 @@ use Rattle.octets.specs.declared.Settled.TheVariants.{Nothing, One, Two}
 use Rattle.octets.specs.Octets.{pel}
 use Rattle.octets.specs.Fit.{Ready}
 use Rattle.octets.specs.Lift.{lift, bytes_of, settled_of}
-use Rattle.octets.specs.Stills as laws
+use Rattle.octets.specs.EngineLaws.{EngineLaws}
 use Rattle.octets.proofs.Runs.{pel-upper}
 use Rattle.row.specs.QEngine.{q_engine}
 use Rattle.row.specs.AnyEngine.{engine_over, Pelled, still_pel, moved_pel}
@@ -82,7 +82,7 @@ module _ {E : Type 0} (bottom_of : E → Coder) (Sound : E → Type 0) where
       }
 
   module _ (above_of : Coder → E) (CanStill : ℕ → E → Type 0) (after_still : ℕ → E → E)
-      (L : laws.Stills bottom_of above_of Sound CanStill after_still) where
+      (L : EngineLaws bottom_of above_of Sound CanStill after_still) where
     pub pelled-still : (t : E) (e : ℕ) → Sound t → 4096 + row_of e ≤ (bottom_of t).interval.width
         → Pelled bottom_of Sound t e true (still_pel (after_still (row_of e) t))
     pelled-still t e k h =

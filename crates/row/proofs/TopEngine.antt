@@ -14,14 +14,15 @@ use Rattle.estimate.specs.Estimate.{row_of, next}
 use Rattle.interval.specs.Interval.{decision, part_of}
 use Rattle.octets.specs.declared.Put.{Put}
 use Rattle.octets.specs.Octets.{start, pel}
+use Rattle.octets.specs.Fit.{Ready}
 use Rattle.octets.specs.Lift.{lift, settled_of}
 use Rattle.top.specs.declared.Top.{Top}
 use Rattle.top.specs.Top.{bottom_of, above_of, narrowed}
-use Rattle.top.specs.TopStills.{above-bottom, above_holds, top_stills}
+use Rattle.top.specs.TopLaws.{above-bottom, above_holds, top_laws}
 use Rattle.row.specs.QEngine.{q_engine}
 use Rattle.row.proofs.QEngine.{q_is_engine}
 use Rattle.row.specs.TopEngine.{top_engine, TopSound, TopPelled}
-use Rattle.row.proofs.AnyEngine.{over_is_engine, over_seven, over-first, pelled-still, pelled-moved}
+use Rattle.row.proofs.AnyEngine.{over_is_engine, over_seven, over-first, pelled-still, pelled-moved, up-bottom, up-ready, up-count}
 use Rattle.row.specs.AnyEngine.{still_pel, moved_pel}
 use Rattle.row.proofs.WrittenRow.{Seven}
 
@@ -34,13 +35,24 @@ top_seven = over_seven bottom_of TopSound
 -- one pel by it
 pub top_pelled-still : (t : Top) (e : ℕ) → TopSound t → 4096 + row_of e ≤ t.width
     → TopPelled t e true (still_pel (narrowed (row_of e) t))
-top_pelled-still = pelled-still bottom_of TopSound above_of (λ n t. n ≤ t.width) narrowed top_stills
+top_pelled-still = pelled-still bottom_of TopSound above_of (λ n t. n ≤ t.width) narrowed top_laws
 
 pub top_pelled-moved : (t : Top) (e : ℕ) (b : Bool) (u : Put Top) (n : ℕ)
     → (part_of (decision (row_of e) b) (bottom_of t).interval).width < 4096
     → pel (decision (row_of e) b) (lift (bottom_of t) []) ≡ lift (bottom_of u.coder) (settled_of u)
     → TopSound u.coder → n ≡ next b e → TopPelled t e b (moved_pel u n)
 top_pelled-moved = pelled-moved bottom_of TopSound
+
+-- ---- a row from the string moved up
+module _ (c₀ : Coder) (t₀ : Top) (up : t₀ ≡ above_of c₀) where
+  pub top_up-bottom : bottom_of t₀ ≡ c₀
+  top_up-bottom = up-bottom bottom_of TopSound above_of (λ n t. n ≤ t.width) narrowed top_laws c₀ t₀ up
+
+  pub top_up-ready : Ready (lift c₀ []) → top_engine.Ready t₀
+  top_up-ready = up-ready bottom_of TopSound above_of (λ n t. n ≤ t.width) narrowed top_laws c₀ t₀ up
+
+  pub top_up-count : t₀.count ≡ c₀.interval.count
+  top_up-count = up-count bottom_of TopSound above_of (λ n t. n ≤ t.width) narrowed top_laws c₀ t₀ up
 
 -- whatever the second engine codes, the first does, from the string moved down to the string moved down
 pub first-too : (width : ℕ) (m₀ m : Page) (t₀ t : Top) (n₀ n : ℕ) (ps xs : List ℕ)

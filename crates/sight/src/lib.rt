@@ -19,7 +19,8 @@ use row::Pel;
 use top::Top;
 
 // What is in sight of a code: its bits read so far less the low end, how many of them lie ahead, the byte last read,
-// and where the next stands.
+// and where the next stands. It is a place and not the rest of the code as a slice, since a reader's loop is short of
+// registers: a slice takes two, and the code is at hand there anyway, to be compared.
 #[derive(Clone, Copy)]
 pub struct View {
     pub x: u64,
@@ -51,20 +52,13 @@ pub fn fetch(code: &[u8], at: usize) -> Fetched
         × (drop result.at code.now ≡ drop 1 (drop at code.now))
         × (result.at ≤ length code.now) }
 {
-    if at < code.len() {
-        let b = wide(code[at]);
-        return Fetched {
-            byte: b,
+    match code.get(at) {
+        Some(b) => Fetched {
+            byte: *b as u64,
             at: at + 1,
-        };
+        },
+        None => Fetched { byte: 0, at },
     }
-    Fetched { byte: 0, at: at }
-}
-
-fn wide(b: u8) -> u64
-    ensures { (result ≡ b) × (result ≤ 255) }
-{
-    b as u64
 }
 
 // The bits that a byte brings after the byte b.

@@ -1,2 +1,2 @@
 pub mod Top
-pub mod TopStills
+pub mod TopLaws

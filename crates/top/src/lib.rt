@@ -7,7 +7,7 @@ ghost use Rattle.limits.specs.Limits.{max_shifts};
 ghost use Rattle.interval.specs.Interval.{decision, part_of, grown, doublings};
 ghost use Rattle.octets.specs.declared.Coder.{Coder};
 ghost use Rattle.top.specs.Top.{bottom_of, above_of, narrowed, within};
-ghost use Rattle.top.specs.TopStills.{top_stills};
+ghost use Rattle.top.specs.TopLaws.{top_laws};
 
 use interval::Interval;
 use octets::{Coder, Engine, Put, Settled};
@@ -77,7 +77,7 @@ impl Engine for Top {
 
     ghost after_still = { narrowed };
 
-    ghost stills = { top_stills };
+    ghost laws = { top_laws };
 
     fn above(c: Coder) -> Self {
         let v = c.interval;

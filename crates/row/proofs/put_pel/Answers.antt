@@ -11,7 +11,7 @@ overflow_add-q g c = omega (arith, c.row_of-q.ensures, (row_sized c.args.e).smal
 
 pub still_pel-requires : goal.still_pel-requires
 still_pel-requires g c = let f = c.requires.0.rest.fit in
-    g.met.E.Engine.stills.can _ _ (omega (arith, c.if-q-width.true, c.width.ensures))
+    g.met.E.Engine.laws.can _ _ (omega (arith, c.if-q-width.true, c.width.ensures))
     (omega (arith, f.narrow)) (low_fits _ f)
 
 pub returns-then-q-width : goal.returns-then-q-width
@@ -19,7 +19,7 @@ returns-then-q-width g c = let a = c.args in
     let m = g.E.Engine in
     let q = c.row_of-q.ensures in
     rw (c.if-expected.true, c.still_pel.ensures, q)
-    (pelled-still m.bottom_of m.Sound m.above_of m.CanStill m.after_still g.met.E.Engine.stills a.coder a.e
+    (pelled-still m.bottom_of m.Sound m.above_of m.CanStill m.after_still g.met.E.Engine.laws a.coder a.e
     c.requires.1 (omega (arith, q, c.width.ensures, c.if-q-width.true)))
 
 pub pel-v-requires : goal.pel-v-requires

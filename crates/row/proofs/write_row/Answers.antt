@@ -52,7 +52,7 @@ few : (g : Over) (c : In-loop-x g) → let l = c.loop-x in let s = c.args.start 
 few g c =
     let m = g.E.Engine in
     let i = c.loop-x.invariant.0 in
-    let z = up-count m.bottom_of m.Sound m.above_of m.CanStill m.after_still g.met.E.Engine.stills _ _
+    let z = up-count m.bottom_of m.Sound m.above_of m.CanStill m.after_still g.met.E.Engine.laws _ _
     c.above-coder.ensures in (
       omega (arith, row_count (this g) (is g) (seven g) _ _ _ _ _ _ _ _ _ _ _ _ _ _ _ i, z),
       row-place (this g) (is g) (seven g) _ _ _ _ _ _ _ _ _ _ _ _ _ _ _ i,
@@ -68,7 +68,7 @@ pub loop-x-init : goal.loop-x-init
 loop-x-init g c = let p = c.requires in
     let m = g.E.Engine in (
       row-start (this g) (is g) (seven g) _ _ _ _ _ _ _ _ _ c.start-window.ensures p.3
-          (up-ready m.bottom_of m.Sound m.above_of m.CanStill m.after_still g.met.E.Engine.stills _ _
+          (up-ready m.bottom_of m.Sound m.above_of m.CanStill m.after_still g.met.E.Engine.laws _ _
           c.above-coder.ensures p.4),
       clear_none _ _ _ _ _ (omega arith) (omega arith),
     )
@@ -102,7 +102,7 @@ fits-n-requires g c = let l = c.loop-x in
 
 pub still-coder-requires : goal.still-coder-requires
 still-coder-requires g c = let f = c.loop-x.invariant.0.done.coded.ready.0.rest.fit in
-    g.met.E.Engine.stills.can _ _ (omega (arith, c.fits-n.ensures.1, c.width.ensures)) (omega (arith, f.narrow))
+    g.met.E.Engine.laws.can _ _ (omega (arith, c.fits-n.ensures.1, c.width.ensures)) (omega (arith, f.narrow))
     (low_fits _ f)
 
 pub loop-x-preserved-then-n-ne0 : goal.loop-x-preserved-then-n-ne0
@@ -115,7 +115,7 @@ loop-x-preserved-then-n-ne0 g c = let a = c.args in
     let so = c.starts_run.ensures c.if-starts_run.true in
     rw (c.still-coder.ensures, c.white-window.ensures) (
       row-run (this g) (is g)
-          (over_stills m.bottom_of m.Sound m.above_of m.CanStill m.after_still g.met.E.Engine.stills) (seven g)
+          (over_stills m.bottom_of m.Sound m.above_of m.CanStill m.after_still g.met.E.Engine.laws) (seven g)
           a.above.width (pels_to a.above.bytes.now a.above.width) a.row.now _ _ _ _ _
           l.table.entries _ _ _ so.0 (pels-bits a.above.bytes.now a.above.width) l.coder l.window l.x
           u.result n.result _ l.invariant.0 so.1 u.ensures.1 u.ensures.0 n.ensures.0
@@ -209,7 +209,7 @@ bottom-requires g c = c.loop-x.invariant.0.done.coded.ready.1
 pub returns : goal.returns
 returns g c = let m = g.E.Engine in
     rw c.bottom.ensures
-    (down m.bottom_of m.Sound m.above_of m.CanStill m.after_still g.met.E.Engine.stills _ _ c.above-coder.ensures
+    (down m.bottom_of m.Sound m.above_of m.CanStill m.after_still g.met.E.Engine.laws _ _ c.above-coder.ensures
     _ _ _ _ _ _ _ _ _ _ _
     (row_done (this g) (is g) (seven g) _ _ _ _ _ _ _ _ _ _ _ _ _ _ _ c.loop-x.invariant.0 c.requires.2
     (omega (arith, c.loop-x.invariant.0.passed, c.loop-x-test.false))))

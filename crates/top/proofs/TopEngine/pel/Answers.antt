@@ -7,7 +7,7 @@ use Rattle.octets.specs.declared.Coder.{Coder}
 use Rattle.octets.specs.Octets.{pel}
 use Rattle.octets.specs.Lift.{lift, settled_of}
 use Rattle.top.specs.Top.{bottom_of, within}
-use Rattle.top.specs.TopStills.{above-bottom, above_holds}
+use Rattle.top.specs.TopLaws.{above-bottom, above_holds}
 use Rattle.top.proofs.Pels.{next-coded, top-fits, grow-fits, above-fits, top-few, settle-fits, top-bytes}
 use Rattle.top.proofs.TopEngine.pel.Goals as goal
 use Rattle.top.proofs.TopEngine.pel.Goals.{After-grow-v, After-settle-p}

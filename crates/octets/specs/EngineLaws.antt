@@ -3,7 +3,7 @@ use Rattle.std.specs.Prelude.{◌≡◌, ℕ, ◌+◌, ◌-◌, ◌^◌, ◌≤�
 use Rattle.octets.specs.declared.Coder.{Coder}
 use Rattle.octets.specs.Runs.{still_by}
 
-pub record Stills {E : Type 0} (bottom_of : E → Coder) (above_of : Coder → E) (Sound : E → Type 0)
+pub record EngineLaws {E : Type 0} (bottom_of : E → Coder) (above_of : Coder → E) (Sound : E → Type 0)
     (CanStill : ℕ → E → Type 0) (after_still : ℕ → E → E) : Type 0 where
   -- the registers for a coder stand for it
   pub above : (c : Coder) → bottom_of (above_of c) ≡ c

@@ -3,7 +3,7 @@ use Rattle.std.specs.Prelude.{◌≡◌, ℕ, ◌+◌, ◌-◌, ◌≤◌, refl}
 use Rattle.std.proofs.Common.{arith}
 use Rattle.octets.specs.declared.Coder.{Coder}
 use Rattle.octets.specs.Runs.{still_by}
-use Rattle.octets.specs.Stills.{Stills}
+use Rattle.octets.specs.EngineLaws.{EngineLaws}
 use Rattle.top.specs.declared.Top.{Top}
 use Rattle.top.specs.Top.{bottom_of, above_of, narrowed}
 
@@ -61,8 +61,8 @@ narrowed-more m n s t e = λ i. record {
     width : (x : ℕ) → x - m - n ≡ x - s
     width x = omega arith
 
-pub top_stills : Stills bottom_of above_of (λ t. t.width ≤ t.top) (λ n t. n ≤ t.width) narrowed
-top_stills = record {
+pub top_laws : EngineLaws bottom_of above_of (λ t. t.width ≤ t.top) (λ n t. n ≤ t.width) narrowed
+top_laws = record {
   above = above-bottom;
   above_sound = above_holds;
   none = narrowed_none;

@@ -3,7 +3,7 @@ use Rattle.std.specs.Prelude.{◌≡◌, ℕ, ◌+◌, ◌-◌, ◌^◌, ◌≤�
 use Rattle.std.proofs.Common.{arith}
 use Rattle.octets.specs.declared.Coder.{Coder}
 use Rattle.octets.specs.Runs.{still_by}
-use Rattle.octets.specs.Stills.{Stills}
+use Rattle.octets.specs.EngineLaws.{EngineLaws}
 
 -- where its expected pels with no shift may be taken
 abbrev pub CanStill : ℕ → Coder → Type 0
@@ -35,8 +35,8 @@ still-more m n s c e = λ t. record {
     wide : (x : ℕ) → x - m - n ≡ x - s
     wide x = omega arith
 
-pub coder_stills : Stills {E = Coder} (λ c. c) (λ c. c) (λ c. Unit {0}) CanStill still_by
-coder_stills = record {
+pub coder_laws : EngineLaws {E = Coder} (λ c. c) (λ c. c) (λ c. Unit {0}) CanStill still_by
+coder_laws = record {
   above = λ c. refl;
   above_sound = λ c. tt;
   none = still-none;
