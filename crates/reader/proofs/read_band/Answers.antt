@@ -42,7 +42,7 @@ compared c v h =
     let f = c.finish-end.result in
     let s = c.match_last-same in
     as-compared (r.good && matches given r.at (take f.count f.bytes)) s.result c.as_long.result
-    (r.at + f.count - 1) (length given) v s.ensures c.as_long.ensures h
+    (r.at + f.count - 1) (length given) v (rw c.as_slice.ensures at s.ensures) c.as_long.ensures h
 
 pub overflow_mul-length : goal.overflow_mul-length
 overflow_mul-length c = let q = c.requires in
@@ -62,7 +62,7 @@ read_rows-done-requires c = let q = c.requires in
 pub match_last-same-requires : goal.match_last-same-requires
 match_last-same-requires c =
     let past = goal.at.match_last-same-requires c in
-    rw (counts past.After-finish-end) (placed past.After-finish-end)
+    rw (c.as_slice.ensures, counts past.After-finish-end) (placed past.After-finish-end)
 
 pub overflow_add-reading : goal.overflow_add-reading
 overflow_add-reading c = omega (arith, placed (goal.at.overflow_add-reading c).After-finish-end)

@@ -52,7 +52,6 @@ read_row-line-requires c = let q = c.requires in
     let f = reads-few _ _ _ _ _ _ _ _ _ b q.1 in
     let t = c.loop-y-test.true in (
       q.1,
-      omega (arith, c.loop-y.invariant.2, q.1),
       q.0,
       b.done.coded.lawful,
       b.done.coded.ready,

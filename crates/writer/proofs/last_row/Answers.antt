@@ -1,8 +1,7 @@
--- The last row is the end of the band, before zeros. Assumes nothing.
-use Rattle.writer.proofs.LastRow.{copy-end}
+-- The last row of a band, before zeros. Assumes nothing.
+use Rattle.writer.proofs.LastRow.{in-room}
 use Rattle.writer.proofs.last_row.Goals as goal
 
 pub returns : goal.returns
-returns c = let a = c.args in
-    let q = c.requires in
-    copy-end a.pels.now _ a.width a.rows _ c.row_bytes-bytes.ensures q.2 q.4 c.copy_from_slice.ensures.after
+returns c = let band = c.args.band in
+    in-room band.pels.now _ _ band.width band.rows c.requires band.whole c.row.ensures.0 c.copy_from_slice.ensures.after
