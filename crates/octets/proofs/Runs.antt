@@ -9,10 +9,8 @@ use lib.ListN.{replicate}
 use Rattle.ground.proofs.Tests.{if-ge}
 use Rattle.interval.specs.declared.Interval.{Interval}
 use Rattle.interval.specs.Interval.{decision, upper_part}
-use Rattle.octets.specs.declared.Coder.{Coder}
 use Rattle.octets.specs.Octets.{Registers, due, double, shifts, pel, run}
 use Rattle.octets.proofs.Fit.{upper}
-use Rattle.octets.specs.Runs.{still_by}
 
 -- ---- two steps up are one
 part_none : (i : Interval) → upper_part 0 i ≡ i
@@ -32,14 +30,6 @@ part-more m n s i e = λ t. record { low = low i.low t; width = wide i.width t; 
 
     wide : (x : ℕ) → x - m - n ≡ x - s
     wide x = omega arith
-
-pub still-none : (c : Coder) → still_by 0 c ≡ c
-still-none c =
-    ap (λ (i : Interval). record { interval = i; until = c.until; held = c.held }) (part_none c.interval)
-
-pub still-more : (m n s : ℕ) (c : Coder) → m + n ≡ s → still_by n (still_by m c) ≡ still_by s c
-still-more m n s c e =
-    ap (λ (i : Interval). record { interval = i; until = c.until; held = c.held }) (part-more m n s c.interval e)
 
 -- ---- a width of 1000 hex or more is not shifted
 shifts_none : (n : ℕ) (w : Registers) → 4096 ≤ w.interval.width → shifts n w ≡ w

@@ -4,3 +4,5 @@ pub mod Fit
 pub mod Loops
 pub mod Lift
 pub mod Runs
+pub mod Stills
+pub mod CoderStills

@@ -1,16 +1,23 @@
 -- The code's numbers as the definition's registers, and the bytes of one pel as the code makes them. Assumes nothing.
-use Rattle.std.specs.Prelude.{◌≡◌, ℕ, ◌-◌, ◌*◌, ◌/◌, ◌%◌, ◌^◌, ◌≤◌, ◌<◌, List, [], ◌∷◌, take}
+use Rattle.std.specs.Prelude.{◌≡◌, ℕ, ◌-◌, ◌*◌, ◌/◌, ◌%◌, ◌^◌, ◌≤◌, ◌<◌, List, [], ◌∷◌}
 use Rattle.octets.specs.declared.Coder.{Coder}
 use Rattle.octets.specs.declared.Byte.{Byte}
 use Rattle.octets.specs.declared.Put.{Put}
+use Rattle.octets.specs.declared.Settled.{Settled}
+use Rattle.octets.specs.declared.Settled.TheVariants.{Nothing, One, Two}
 use Rattle.octets.specs.Octets.{Registers, bits, carried, left}
 
 abbrev pub lift : Coder → List ℕ → Registers
 lift c xs = record { interval = c.interval; until = c.until; held = c.held; settled = xs }
 
 -- the bytes that a pel settles
-abbrev pub settled_of : Put → List ℕ
-settled_of p = take p.settled (p.first ∷ p.second ∷ [])
+abbrev pub bytes_of : Settled → List ℕ
+bytes_of Nothing = []
+bytes_of (One b) = b ∷ []
+bytes_of (Two b c) = b ∷ c ∷ []
+
+abbrev pub settled_of : {E : Type 0} → Put E → List ℕ
+settled_of p = bytes_of p.bytes
 
 -- a byte made of the held byte h and the lower end c, with c at the scale p
 pub record Out (h c p : ℕ) (v : Byte) : Type 0 where

@@ -7,8 +7,11 @@ ghost use Rattle.interval.specs.Interval.{decision, part_of, doublings};
 ghost use Rattle.octets.specs.Octets.{start, pel, byte, finish, follows, ended};
 ghost use Rattle.octets.specs.Fit.{Rest, Ready};
 ghost use Rattle.octets.specs.Loops.{steps};
-ghost use Rattle.octets.specs.Lift.{Out, Small, lift, settled_of, there};
+ghost use Rattle.octets.specs.Lift.{Out, Small, lift, bytes_of, settled_of, there};
 ghost use Rattle.octets.specs.Runs.{still_by};
+ghost use Rattle.octets.specs.Stills.{Stills};
+ghost use Rattle.octets.specs.CoderStills.{CanStill, coder_stills};
+ghost use Rattle.octets.specs.declared.Coder.{Coder};
 
 use interval::Interval;
 
@@ -30,14 +33,32 @@ pub struct Byte {
     pub bits: u64,
 }
 
-// What a pel gives: the registers, its shifts, and the bytes that it settled, two at the most.
+// The bytes that a pel settles: two at the most.
 #[derive(Clone, Copy)]
-pub struct Put {
-    pub coder: Coder,
+pub enum Settled {
+    Nothing,
+    One(u8),
+    Two(u8, u8),
+}
+
+impl Settled {
+    pub fn len(self) -> usize
+        ensures { result ≡ length (bytes_of self) }
+    {
+        match self {
+            Settled::Nothing => 0,
+            Settled::One(_) => 1,
+            Settled::Two(_, _) => 2,
+        }
+    }
+}
+
+// What a pel gives: the registers, its shifts, and the bytes that it settled.
+#[derive(Clone, Copy)]
+pub struct Put<E> {
+    pub coder: E,
     pub shifts: u64,
-    pub settled: usize,
-    pub first: u8,
-    pub second: u8,
+    pub bytes: Settled,
 }
 
 // The last bytes, with what follows the very last: `count` of them.
@@ -100,58 +121,135 @@ fn after_byte(next: Interval, b: Byte, i: u64) -> Coder
       held = b.held;
     } }
 {
-    let interval = Interval {
-        low: b.low,
-        width: next.width,
-        count: next.count,
-    };
     Coder {
-        interval: interval,
+        interval: Interval { low: b.low, ..next },
         until: b.bits - i,
         held: b.held,
     }
 }
 
 // The bytes of a pel whose last byte goes out before its last j shifts: `next` is the interval after all k of them.
-pub fn settle(next: Interval, held: u64, j: u64, k: u64) -> Put
+#[inline(always)]
+pub fn settle(next: Interval, held: u64, j: u64, k: u64) -> Put<Coder>
     requires { (held ≤ 255) × (j ≤ 11) × (next.low < 33554432 * 2 ^ j) }
-    ensures { (result.shifts ≡ k) × (result.settled ≤ 2) × ((c a s : ℕ) → next.low ≡ c * 2 ^ j
+    ensures { (result.shifts ≡ k) × ((c a s : ℕ) → next.low ≡ c * 2 ^ j
         → next.width ≡ a * 2 ^ j → next.count ≡ s + j → steps j (byte (there [] c a s held)) ≡ lift result.coder
         (settled_of result)) }
 {
     let b = byte_out(next.low, held, power(j));
     if j < b.bits {
-        let coder = after_byte(next, b, j);
         return Put {
-            coder: coder,
+            coder: after_byte(next, b, j),
             shifts: k,
-            settled: 1,
-            first: b.settled,
-            second: 0,
+            bytes: Settled::One(b.settled),
         };
     }
     let i = j - b.bits;
     let d = byte_out(b.low, b.held, power(i));
-    let coder = after_byte(next, d, i);
     Put {
-        coder: coder,
+        coder: after_byte(next, d, i),
         shifts: k,
-        settled: 2,
-        first: b.settled,
-        second: d.settled,
+        bytes: Settled::Two(b.settled, d.settled),
     }
 }
 
-// No byte is settled by these k shifts.
-fn none_settled(coder: Coder, k: u64) -> Put
-    ensures { result ≡ record { coder = coder; shifts = k; settled = 0; first = 0; second = 0 } }
-{
-    Put {
-        coder: coder,
-        shifts: k,
-        settled: 0,
-        first: 0,
-        second: 0,
+// The registers of an engine. They stand for a coder, whose code string points at the bottom of the interval.
+pub trait Engine: Copy {
+    // the coder that they stand for, and the registers that stand for a coder
+    ghost bottom_of: { Self → Coder };
+
+    ghost above_of: { Coder → Self };
+
+    // what else holds of them
+    ghost Sound: { Self → Type 0 };
+
+    // expected pels with no shift, whose sizes add up to a number: where they may be taken, and the registers then
+    ghost CanStill: { ℕ → Self → Type 0 };
+
+    ghost after_still: { ℕ → Self → Self };
+
+    // The registers for a coder.
+    fn above(c: Coder) -> Self
+        requires { (c.interval.low < 2 ^ 25) × (c.interval.width < 8192) }
+        ensures { result ≡ above_of c };
+
+    // The coder for the registers.
+    fn bottom(self) -> Coder
+        requires { Sound self }
+        ensures { result ≡ bottom_of self };
+
+    fn width(self) -> u64
+        ensures { result ≡ (bottom_of self).interval.width };
+
+    // Expected pels with no shift, whose sizes add up to n.
+    fn still(self, n: u64) -> Self
+        requires { CanStill n self }
+        ensures { result ≡ after_still n self };
+
+    // One pel.
+    fn pel(self, q: u64, expected: bool) -> Put<Self>
+        requires { Ready (lift (bottom_of self) []) × Sound self × (1 ≤ q) × (q ≤ 0xAC1)
+            × ((bottom_of self).interval.count < max_shifts) }
+        ensures { (pel (decision q expected) (lift (bottom_of self) []) ≡ lift (bottom_of result.coder)
+            (settled_of result)) × Sound result.coder
+            × (result.shifts ≡ doublings 12 (part_of (decision q expected) (bottom_of self).interval).width) };
+
+    ghost stills: { Stills bottom_of above_of Sound CanStill after_still };
+}
+
+// The first engine: the string stays at the bottom.
+impl Engine for Coder {
+    ghost bottom_of = { λ c. c };
+
+    ghost above_of = { λ c. c };
+
+    ghost Sound = { λ c. Unit {0} };
+
+    ghost CanStill = { CanStill };
+
+    ghost after_still = { still_by };
+
+    ghost stills = { coder_stills };
+
+    fn above(c: Coder) -> Self {
+        c
+    }
+
+    fn bottom(self) -> Coder {
+        self
+    }
+
+    fn width(self) -> u64 {
+        self.interval.width
+    }
+
+    fn still(self, n: u64) -> Self {
+        let v = self.interval;
+        let interval = Interval {
+            low: v.low + n,
+            width: v.width - n,
+            ..v
+        };
+        Coder { interval, ..self }
+    }
+
+    fn pel(self, q: u64, expected: bool) -> Put<Self> {
+        let v = self.interval.code(q, expected);
+        let k = v.shifts;
+        let next = v.interval;
+        let until = self.until;
+        if k < until {
+            return Put {
+                coder: Coder {
+                    interval: next,
+                    until: until - k,
+                    held: self.held,
+                },
+                shifts: k,
+                bytes: Settled::Nothing,
+            };
+        }
+        settle(next, self.held, k - until, k)
     }
 }
 
@@ -159,53 +257,11 @@ impl Coder {
     pub fn start() -> Self
         ensures { lift result [] ≡ start }
     {
-        let interval = Interval::whole();
         Coder {
-            interval: interval,
+            interval: Interval::whole(),
             until: 12,
             held: 0,
         }
-    }
-
-    // Expected pels with no shift, whose sizes add up to n.
-    pub fn still(self, n: u64) -> Self
-        requires { (n ≤ self.interval.width) × (self.interval.width < 8192) × (self.interval.low < 2 ^ 25) }
-        ensures { result ≡ still_by n self }
-    {
-        let v = self.interval;
-        let interval = Interval {
-            low: v.low + n,
-            width: v.width - n,
-            count: v.count,
-        };
-        Coder {
-            interval: interval,
-            until: self.until,
-            held: self.held,
-        }
-    }
-
-    // One pel.
-    pub fn pel(self, q: u64, expected: bool) -> Put
-        requires { Ready (lift self []) × (1 ≤ q) × (q ≤ 0xAC1) × (self.interval.count < max_shifts) }
-        ensures { (pel (decision q expected) (lift self []) ≡ lift result.coder (settled_of result)) × (result.settled ≤ 2)
-            × (result.shifts ≡ doublings 12 (part_of (decision q expected) self.interval).width) }
-    {
-        let interval = self.interval;
-        let until = self.until;
-        let held = self.held;
-        let v = interval.code(q, expected);
-        let k = v.shifts;
-        let next = v.interval;
-        if k < until {
-            let coder = Coder {
-                interval: next,
-                until: until - k,
-                held: held,
-            };
-            return none_settled(coder, k);
-        }
-        settle(next, held, k - until, k)
     }
 
     // The end: zeros shifted in, and bytes made, until they cover every bit of the lower end; one byte 00 after a last
@@ -215,8 +271,7 @@ impl Coder {
         ensures { (take result.count result.bytes ≡ ended (finish (lift self []))) × (1 ≤ result.count)
             × (result.count ≤ 6) }
     {
-        let interval = self.interval;
-        let mut low = interval.low;
+        let mut low = self.interval.low;
         let mut until = self.until;
         let mut held = self.held;
         let mut left = 24 - until;
@@ -228,15 +283,25 @@ impl Coder {
             low = b.low;
             until = b.bits;
             held = b.held;
-            left = less(left, until);
+            left = left.saturating_sub(until);
             n += 1;
         }
         bytes[n] = held as u8;
         bytes[n + 1] = 0;
         Ended {
-            bytes: bytes,
+            bytes,
             count: n + 1 + following(held),
         }
+    }
+}
+
+impl Ended {
+    // The last bytes alone.
+    pub fn as_slice(&self) -> &[u8]
+        requires { self.now.count ≤ 6 }
+        ensures { result.now ≡ take self.now.count self.now.bytes }
+    {
+        &self.bytes[..self.count]
     }
 }
 
@@ -245,11 +310,4 @@ fn following(b: u64) -> usize
     ensures { (result ≡ length (follows b)) × (result ≤ 1) }
 {
     if b == 0xff { 1 } else { 0 }
-}
-
-// a less b, and 0 where b is more.
-fn less(a: u64, b: u64) -> u64
-    ensures { result ≡ a - b }
-{
-    if b < a { a - b } else { 0 }
 }

@@ -24,6 +24,7 @@ use Rattle.row.proofs.QEngine.{q_is_engine}
 use Rattle.unique.specs.QCoder.{q_reader}
 use Rattle.unique.proofs.QCoder.{q_coder}
 use Rattle.unique.proofs.BandPels.{band-pels}
+use Rattle.std.specs.Prelude.{Ok}
 use Rattle.reader.specs.declared.Progress.{Progress}
 use Rattle.reader.specs.Reads.{BandRead}
 use Rattle.reader.specs.Found.{rows_fit, not_read, read_answer, read_out, BandFound}
@@ -79,37 +80,33 @@ module _ (width rows : ℕ) (table : Table) (last given out₀ above : List ℕ)
   module _ (n : ℕ) (count : n ≡ r.at + length lasts) (some-rows : 1 ≤ rows) where
     pub read_done : Agreed n true
         → BandFound width rows table last given out₀
-        (record {
-          room = true;
-          good = true;
+        (Ok (record {
           length = rows * row_bytes width;
           shifts = r.coder.interval.count;
           revisits = r.revisits;
           table = record { entries = r.table.entries };
           last = above;
-        }) out
+        })) out
     unfolding read_answer read_out in_front
     read_done h =
         record {
           found = some b.band;
           right = λ k. (b.is_band, good-code n count h);
           answer = rw fits
-              (λ i. record {
-                room = true;
-                good = true;
+              (λ i. Ok (record {
                 length = sym b.is_band.size i;
                 shifts = sym shifts-is i;
                 revisits = sym revisits-is i;
                 table = record { entries = sym table_is i };
                 last = sym (last-is some-rows) i;
-              });
+              }));
           lent = rw fits (b.front ∙ ap (λ (k : ℕ). b.band ++ drop k out₀) (sym b.is_band.size));
         }
 
     pub read-damaged : Agreed n false
         → (after : List ℕ) → after ≡ cleared out → length out ≡ length out₀
         → BandFound width rows table last given out₀
-        (not_read true table last) after
+        (not_read true) after
     unfolding read_answer read_out cleared
     read-damaged h after a l =
         record {
@@ -123,7 +120,7 @@ module _ (width rows : ℕ) (table : Table) (last given out₀ above : List ℕ)
 pub read-nothing : (width rows : ℕ) (table : Table) (last given out₀ after : List ℕ) → rows_fit width rows out₀ ≡ false
     → after ≡ cleared out₀
     → BandFound width rows table last given out₀
-    (not_read false table last) after
+    (not_read false) after
 unfolding read_answer read_out
 read-nothing width rows table last given out₀ after f a =
     record { found = none; right = λ k. absurd (no_way (sym k ∙ f)); answer = rw f refl; lent = a }

@@ -36,15 +36,15 @@ use Rattle.template.proofs.Sliding.{slid-on, slid-small, length-pels, pels-bits}
 use Rattle.template.proofs.Packing.{row_next, pels-next, byte-room}
 use Rattle.top.specs.declared.Top.{Top}
 use Rattle.top.specs.Top.{bottom_of, above_of}
-use Rattle.top_row.specs.TopRow.{top_engine, given}
-use Rattle.top_row.proofs.TopEngine.{first-too}
-use Rattle.top_row.proofs.TopPels.{up-bottom}
+use Rattle.row.specs.AnyEngine.{given}
+use Rattle.row.specs.TopEngine.{top_engine}
+use Rattle.row.proofs.TopEngine.{first-too, top_up-bottom}
 use Rattle.unique.specs.QCoder.{q_reader}
 
 -- one pel as the code reads it: told as our reader decides, and coded as told
 pub read_told : (c : Top) (v : View) (code : List ℕ) (e : ℕ) (t : Tells) → ReadPel c v code e t
     → Told top_engine q_reader c (sight_of v c.width code) e t.expected t.p
-    (sight_of t.view t.pel.coder.width code) (given t.pel)
+    (sight_of t.view t.pel.coder.width code) (given e t.pel)
 read_told c v code e t k =
     record {
       asked = k.asked;
@@ -63,7 +63,7 @@ pub read_down : (c₀ : Coder) (t₀ : Top) → t₀ ≡ above_of c₀ → (widt
     n at good r
 read_down c₀ t₀ up width code m₀ m t n₀ n at₀ at good₀ good v₀ r ps f =
     subst₂ (λ (c : Coder) (s : Sight). Followed q_engine q_reader width code m₀ c n₀ at₀ good₀ s ps m (bottom_of t) n at
-    good r) (up-bottom c₀ t₀ up) (ap (λ (u : Top). sight_of v₀ u.width code) up)
+    good r) (top_up-bottom c₀ t₀ up) (ap (λ (u : Top). sight_of v₀ u.width code) up)
     (record {
       settled = f.settled;
       coded = first-too width m₀ m t₀ t n₀ n ps _ f.coded;

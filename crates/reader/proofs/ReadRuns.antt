@@ -24,10 +24,10 @@ use Rattle.sight.specs.Still.{view_by}
 use Rattle.sight.proofs.Still.{view-none, view-more, still_told, told-still}
 use Rattle.top.specs.declared.Top.{Top}
 use Rattle.top.specs.Top.{narrowed}
-use Rattle.top.proofs.Moved.{narrowed_none, narrowed-more}
-use Rattle.top_row.specs.TopRow.{top_engine, given, still_pel}
-use Rattle.top_row.proofs.TopEngine.{top_is_engine}
-use Rattle.top_row.proofs.TopPels.{top_seven}
+use Rattle.top.specs.TopStills.{narrowed_none, narrowed-more}
+use Rattle.row.specs.AnyEngine.{given, still_pel}
+use Rattle.row.specs.TopEngine.{top_engine}
+use Rattle.row.proofs.TopEngine.{top_is_engine, top_seven}
 use Rattle.unique.specs.QCoder.{q_reader}
 use Rattle.reader.specs.RowRead.{InSight}
 use Rattle.reader.proofs.ReadRow.{RowRead, read_told, read-turn}
@@ -82,10 +82,10 @@ module _ (width : ℕ) (over t₀ : List ℕ) (c₀ : Top) (code : List ℕ) (at
             (narrowed q c) (white_window over (suc x)) (sight_of (view_by q v) (c.width - q) code) at n good
             (suc x)) r
             (read-turn top_engine top_is_engine top_seven q_reader width over t₀ c₀ code at₀ n₀ good₀ r₀ row t c
-            (white_window over x) _ at n good x f.0 (given (still_pel c e)) h narrow true 0 0 0 _ t
+            (white_window over x) _ at n good x f.0 (given e (still_pel (narrowed q c))) h narrow true 0 0 0 _ t
             (white_window over (suc x)) at n good b cx
             (subst (λ (p : ℕ). Told top_engine q_reader c (sight_of v c.width code) e true p
-            (sight_of (view_by q v) (c.width - q) code) (given (still_pel c e))) white
+            (sight_of (view_by q v) (c.width - q) code) (given e (still_pel (narrowed q c)))) white
             (read_told c v code e (still_told c v e) k))
             (sym (zero-mul (2 ^ (7 - x % 8)))) (sym (set-get_or t 0 0)) (omega (arith, b (x + 3))) (omega arith)
             (omega arith) refl (sym (with-true good))),

@@ -1,23 +1,23 @@
 // Bands read back: the reader is the writer, told each pel by the code.
 #![tactic(auto)]
 
-ghost use Rattle.std.specs.Prelude.{◌≡◌, false, ◌&&◌, [], ◌∷◌, ◌+◌, ◌-◌, ◌*◌, ◌%◌, ◌≤◌, ◌<◌, ◌^◌, eqb, length, take};
+ghost use Rattle.std.specs.Prelude.{◌≡◌, ◌&&◌, [], ◌+◌, ◌-◌, ◌*◌, ◌%◌, ◌≤◌, ◌<◌, ◌^◌, eqb, length};
 ghost use Rattle.limits.specs.Limits.{max_width, max_rows, farthest, max_shifts};
 ghost use Rattle.estimate.specs.Estimate.{LawfulTable};
 ghost use Rattle.template.specs.Pels.{row_bytes, pels_to};
 ghost use Rattle.template.specs.White.{Under};
 ghost use Rattle.octets.specs.Fit.{Ready};
-ghost use Rattle.octets.specs.Lift.{lift};
+ghost use Rattle.octets.specs.Lift.{lift, bytes_of};
 ghost use Rattle.engine.specs.Followed.{match_at, matches};
 ghost use Rattle.reader.specs.RowRead.{LineRead};
 ghost use Rattle.reader.specs.Reads.{BandRead};
-ghost use Rattle.reader.specs.Found.{not_read, BandFound};
+ghost use Rattle.reader.specs.Found.{BandFound};
 
 use estimate::Table;
 use limits::ROW;
-use octets::Coder;
+use octets::{Coder, Engine, Settled};
 use sight::View;
-use template::Window;
+use template::{Row, Window};
 use top::Top;
 
 // Where a reading stands: the writer's registers, the table, the bytes settled and the pels revisited so far, whether
@@ -52,25 +52,16 @@ pub fn match_one(code: &[u8], at: usize, b: u8) -> bool
     false
 }
 
-// Whether the first n of two settled bytes are the code's too.
-pub fn match_two(code: &[u8], at: usize, n: usize, first: u8, second: u8, good: bool) -> bool
-    requires { (n ≤ 2) × (at + n ≤ farthest) }
-    ensures { result ≡ (good && matches code.now at (take n (first ∷ second ∷ []))) }
+// Whether the bytes that a pel settled are the code's too.
+pub fn match_settled(code: &[u8], at: usize, bytes: Settled, good: bool) -> bool
+    requires { at + length (bytes_of bytes) ≤ farthest }
+    ensures { result ≡ (good && matches code.now at (bytes_of bytes)) }
 {
-    if n == 0 {
-        return good;
+    match bytes {
+        Settled::Nothing => good,
+        Settled::One(b) => good && match_one(code, at, b),
+        Settled::Two(b, c) => good && match_one(code, at, b) && match_one(code, at + 1, c),
     }
-    if !good {
-        return false;
-    }
-    let one = match_one(code, at, first);
-    if n == 1 {
-        return one;
-    }
-    if one {
-        return match_one(code, at + 1, second);
-    }
-    false
 }
 
 // A pel at its place in a byte.
@@ -82,42 +73,44 @@ pub fn pel_in_byte(p: u8, x: usize) -> u8
 }
 
 // Where the run at x ends, as far as the row above tells: as it is known, or by a look along that row.
-fn run_end(above: &[u8], width: usize, x: usize, known: usize) -> usize
-    requires { (width ≤ max_width) × (width ≤ 8 * length above.now) × (x < width) × (known ≤ width)
-        × Under (pels_to above.now width) x known }
-    ensures { (x ≤ result) × (result ≤ width) × Under (pels_to above.now width) x result }
+fn run_end(above: Row, x: usize, known: usize) -> usize
+    requires { (above.width ≤ max_width) × (x < above.width) × (known ≤ above.width)
+        × Under (pels_to above.bytes.now above.width) x known }
+    ensures { (x ≤ result) × (result ≤ above.entry.width)
+        × Under (pels_to above.entry.bytes.now above.entry.width) x result }
 {
     if x < known {
         return known;
     }
-    template::under_to(above, width, x)
+    above.under_to(x)
 }
 
 // One row, under the row above it. By the second engine, and with the context as one register: the loop has more
 // numbers at hand than a processor has registers, and so fewer of them go through memory.
-pub fn read_row(code: &[u8], above: &[u8], width: usize, start: Progress) -> Line
-    requires { (width ≤ max_width) × (width ≤ 8 * length above.now) × (1 ≤ width)
+pub fn read_row(code: &[u8], above: Row, start: Progress) -> Line
+    requires { (above.width ≤ max_width) × (1 ≤ above.width)
         × LawfulTable start.table.entries × Ready (lift start.coder [])
         × (start.coder.interval.count + 12 * max_width ≤ max_shifts) × (start.at + 2 * max_width ≤ farthest)
         × (start.revisits ≤ start.coder.interval.count)
         × (start.view.at ≤ length code.now) × (start.view.look ≤ 7) × (start.view.x < 2 ^ 32) }
-    ensures { LineRead width (pels_to above.now width) code.now start result }
+    ensures { LineRead above.entry.width (pels_to above.entry.bytes.now above.entry.width) code.now start result }
 {
+    let width = above.width;
     let mut coder = Top::above(start.coder);
     let mut table = start.table;
     let mut at = start.at;
     let mut revisits = start.revisits;
     let mut good = start.good;
     let mut view = start.view;
-    let first = Window::start(above, width);
-    let mut cx = first.context();
+    let mut cx = Window::start(above).context();
     let mut row = [0u8; ROW];
     let mut end: usize = 0;
     let mut x: usize = 0;
+    // No `for`: a run of still pels moves x by more than one.
     while x < width {
         let white = table.entries[0];
         if row::starts_run(white, cx, 0, width) {
-            end = run_end(above, width, x, end);
+            end = run_end(above, x, end);
             let q = estimate::row_of(white);
             let n = interval::fits(end - x, q, view.room(coder.width));
             if n != 0 {
@@ -125,55 +118,52 @@ pub fn read_row(code: &[u8], above: &[u8], width: usize, start: Progress) -> Lin
                 coder = coder.still(size);
                 view = view.still(size);
                 x += n;
-                let behind = Window::white(above, width, x);
-                cx = behind.context();
+                cx = Window::white(above, x).context();
                 continue;
             }
         }
         let e = table.entries[cx];
         let told = sight::read_pel(coder, view, code, e);
-        let p = told.p;
-        let v = told.pel;
-        coder = v.coder;
+        coder = told.pel.coder;
         view = told.view;
-        if v.revisited {
+        if let Some(moved) = told.pel.moved {
             revisits += 1;
-            table.entries[cx] = v.entry;
-            good = match_two(code, at, v.settled, v.first, v.second, good);
-            at = at + v.settled;
+            table.entries[cx] = moved.entry;
+            good = match_settled(code, at, moved.bytes, good);
+            at += moved.bytes.len();
         }
-        let window = Window::of(cx);
-        let next = window.slide(above, width, x, p);
-        cx = next.context();
-        let j = x / 8;
-        row[j] = row[j] + pel_in_byte(p, x);
+        cx = Window::of(cx).slide(above, x, told.p).context();
+        row[x / 8] += pel_in_byte(told.p, x);
         x += 1;
     }
-    let bottom = coder.bottom();
     Line {
-        row: row,
+        row,
         reading: Progress {
-            coder: bottom,
-            table: table,
-            at: at,
-            revisits: revisits,
-            good: good,
-            view: view,
+            coder: coder.bottom(),
+            table,
+            at,
+            revisits,
+            good,
+            view,
         },
     }
 }
 
-// What reading a band gives: whether there was room, whether the code was good, the bytes of all rows, S, the pels
-// revisited, and the table and last row after it.
+// What reading a band gives: the bytes of all rows, S, the pels revisited, and the table and last row after it.
 #[derive(Clone, Copy)]
 pub struct Read {
-    pub room: bool,
-    pub good: bool,
     pub length: usize,
     pub shifts: u64,
     pub revisits: u64,
     pub table: Table,
     pub last: [u8; ROW],
+}
+
+// Why a band is not read: the buffer is too short for its rows, or no band was written as that code.
+#[derive(Clone, Copy)]
+pub enum Fault {
+    NoRoom,
+    Damaged,
 }
 
 // The rows of a band: where the reading stands, and the last of them.
@@ -198,41 +188,42 @@ pub fn read_rows(
         out.new rows }
 {
     let bytes = template::row_bytes(width);
-    let coder = Coder::start();
-    let view = View::start(code);
     let mut above = last;
     let mut reading = Progress {
-        coder: coder,
-        table: table,
+        coder: Coder::start(),
+        table,
         at: 0,
         revisits: 0,
         good: true,
-        view: view,
+        view: View::start(code),
     };
-    let mut y: usize = 0;
-    while y < rows {
-        let line = read_row(code, &above, width, reading);
+    for y in 0..rows {
+        let line = read_row(
+            code,
+            Row {
+                bytes: &above,
+                width,
+            },
+            reading,
+        );
         above = line.row;
         reading = line.reading;
         store::put_row(out, y * bytes, above, bytes);
-        y += 1;
     }
     Rows {
-        reading: reading,
+        reading,
         last: above,
     }
 }
 
-// Whether the first n of the last bytes are the code's too.
-pub fn match_last(code: &[u8], at: usize, bytes: [u8; 6], n: usize, good: bool) -> bool
-    requires { (n ≤ 6) × (at + n ≤ farthest) }
-    ensures { result ≡ (good && matches code.now at (take n bytes)) }
+// Whether the last bytes are the code's too.
+pub fn match_last(code: &[u8], at: usize, bytes: &[u8], good: bool) -> bool
+    requires { at + length bytes.now ≤ farthest }
+    ensures { result ≡ (good && matches code.now at bytes.now) }
 {
     let mut same = good;
-    let mut i: usize = 0;
-    while i < n {
-        same = match_two(code, at + i, 1, bytes[i], 0, same);
-        i += 1;
+    for (i, b) in bytes.iter().enumerate() {
+        same = same && match_one(code, at + i, *b);
     }
     same
 }
@@ -241,22 +232,7 @@ pub fn match_last(code: &[u8], at: usize, bytes: [u8; 6], n: usize, good: bool) 
 pub fn as_long(same: bool, n: usize, len: usize) -> bool
     ensures { result ≡ (same && eqb n len) }
 {
-    if same { n == len } else { false }
-}
-
-// Nothing is read, for want of room or of a good code.
-fn not_read(room: bool, table: Table, last: [u8; ROW]) -> Read
-    ensures { result ≡ not_read room table last }
-{
-    Read {
-        room: room,
-        good: false,
-        length: 0,
-        shifts: 0,
-        revisits: 0,
-        table: table,
-        last: last,
-    }
+    same && n == len
 }
 
 // A band back into a lent buffer: its rows in front and the rest kept; all zero where there is no room, or where no
@@ -268,34 +244,29 @@ pub fn read_band(
     rows: usize,
     code: &[u8],
     out: &mut [u8],
-) -> Read
+) -> Result<Read, Fault>
     requires { (1 ≤ width) × (width ≤ max_width) × (1 ≤ rows) × (rows ≤ max_rows) × LawfulTable table.entries }
     ensures { BandFound width rows table last code.now out.old result out.new }
 {
     let length = rows * template::row_bytes(width);
     if out.len() < length {
         store::clear(out);
-        return not_read(false, table, last);
+        return Err(Fault::NoRoom);
     }
     let done = read_rows(table, last, width, rows, code, out);
     let reading = done.reading;
-    let coder = reading.coder;
-    let end = coder.finish();
-    let bytes = end.bytes;
-    let same = match_last(code, reading.at, bytes, end.count, reading.good);
-    if as_long(same, reading.at + end.count - 1, code.len()) {
-        let after = reading.table;
-        let row = done.last;
-        return Read {
-            room: true,
-            good: true,
-            length: length,
-            shifts: coder.interval.count,
-            revisits: reading.revisits,
-            table: after,
-            last: row,
-        };
+    let end = reading.coder.finish();
+    let same = match_last(code, reading.at, end.as_slice(), reading.good);
+    if !as_long(same, reading.at + end.count - 1, code.len()) {
+        store::clear(out);
+        return Err(Fault::Damaged);
     }
-    store::clear(out);
-    not_read(true, table, last)
+    let last = done.last;
+    Ok(Read {
+        length,
+        shifts: reading.coder.interval.count,
+        revisits: reading.revisits,
+        table: reading.table,
+        last,
+    })
 }

@@ -1,3 +1,5 @@
+pub mod AnyEngine
 pub mod QEngine
+pub mod TopEngine
 pub mod WrittenRow
 pub mod WrittenRuns

@@ -1,14 +1,11 @@
 -- A row as a writer's loop meets it, by any engine over our seven neighbours: after x pels the table, the registers,
 -- the window and the buffer are the definition's. Assumes nothing.
-use mathlib.Core.Path.{◌≡◌, refl, sym, ap, ◌∙◌, subst, subst₂}
-use Prim.Native.Nat.{ℕ, suc, ◌+◌, ◌-◌, ◌*◌, ◌%◌, ◌≤◌, ◌<◌}
+use mathlib.Core.Path.{◌≡◌, sym, ap, ◌∙◌, subst, subst₂}
+use Prim.Native.Nat.{ℕ, suc, ◌+◌, ◌*◌, ◌%◌, ◌≤◌, ◌<◌}
 use native.Mathlib.Omega.{arith}
-use mathlib.Core.Bool.{Bool, true, false}
 use mathlib.Core.List.{List, [], ◌∷◌, ◌++◌}
-use lib.ListN.{get_or, set, length, length-take}
+use lib.ListN.{get_or, set, length}
 use lib.Dec.{eqb}
-use borrow.Author.Tests.{lt-ltb, le-ltb}
-use Rattle.ground.proofs.Bools.{no_way}
 use Rattle.coder.specs.Writing.{counted}
 use Rattle.coder.specs.Page.{Page}
 use Rattle.engine.specs.Engine.{Engine}
@@ -17,56 +14,16 @@ use Rattle.engine.specs.Coded as any
 use Rattle.engine.proofs.Engine.{IsEngine}
 use Rattle.engine.proofs.Coded.{page-within, page-full, page-lawful, lawful-page, coded-revisits, stored-none}
 use Rattle.engine.proofs.Coded.{stored-pel, stored-length}
-use Rattle.estimate.specs.Estimate.{row_of, next}
-use Rattle.interval.specs.Interval.{decision, part_of}
-use Rattle.octets.specs.declared.Coder.{Coder}
-use Rattle.octets.specs.declared.Put.{Put}
-use Rattle.octets.specs.Octets.{pel}
-use Rattle.octets.specs.Lift.{lift, settled_of}
-use Rattle.octets.proofs.Runs.{pel-upper}
 use Rattle.store.specs.Store.{stores}
 use Rattle.template.specs.Pels.{pel_at, pels_to, context}
 use Rattle.template.specs.declared.Window.{Window}
 use Rattle.template.specs.Window.{Slid}
 use Rattle.template.proofs.Sliding.{slid-on, slid-small, length-pels, pels-bits, pel-bit}
-use Rattle.row.specs.QEngine.{q_engine}
-use Rattle.row.specs.WrittenRow.{Pelled, still_pel, moved_pel}
-
--- ---- one pel, by the first engine
-pub pelled-still : (c : Coder) (e : ℕ) → 4096 + row_of e ≤ c.interval.width → Pelled c e true (still_pel c e)
-pelled-still c e h =
-    let n : any.shifted_by q_engine c e true ≡ false = le-ltb (c.interval.width - row_of e) 4096 (omega arith) in
-    record {
-      puts = pel-upper (row_of e) (lift c []) h;
-      entry = rw n;
-      revisited = sym n;
-      quiet = λ z. refl;
-      size = refl;
-      few = omega arith;
-    }
-
-pub pelled-moved : (c : Coder) (e : ℕ) (b : Bool) (u : Put) (n : ℕ)
-    → (part_of (decision (row_of e) b) c.interval).width < 4096
-    → pel (decision (row_of e) b) (lift c []) ≡ lift u.coder (settled_of u) → u.settled ≤ 2 → n ≡ next b e
-    → Pelled c e b (moved_pel u n)
-pelled-moved c e b u n h r f k =
-    let m : any.shifted_by q_engine c e b ≡ true = lt-ltb (part_of (decision (row_of e) b) c.interval).width 4096 h in
-    record {
-      puts = r;
-      entry = rw m k;
-      revisited = sym m;
-      quiet = λ z. no_way z;
-      size = length-take u.settled (u.first ∷ u.second ∷ []) ∙ omega arith;
-      few = f;
-    }
 
 -- ---- a row
 -- an engine over our seven neighbours
 abbrev pub Seven : Engine → Type 0
 Seven E = (above this : List ℕ) (x : ℕ) → E.scheme.template above this x ≡ context above this x
-
-pub q_seven : Seven q_engine
-q_seven above this x = refl
 
 module _ (E : Engine) (K : IsEngine E) (seven : Seven E) (width : ℕ) (above row t₀ : List ℕ) (c₀ : E.Registers)
     (out₀ : List ℕ) (at₀ n₀ : ℕ) where

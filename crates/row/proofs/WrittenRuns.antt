@@ -12,16 +12,14 @@ use borrow.Author.Tests.{eq-eqb}
 use Rattle.engine.specs.Engine.{Engine}
 use Rattle.engine.specs.Coded.{Gives, Pelled}
 use Rattle.engine.proofs.Engine.{IsEngine}
-use Rattle.octets.specs.Runs.{still_by}
-use Rattle.octets.proofs.Runs.{still-more, still-none, in-steps}
+use Rattle.octets.proofs.Runs.{in-steps}
 use Rattle.store.specs.Store.{stores}
 use Rattle.template.specs.Pels.{pel_at, pels_to, context}
 use Rattle.template.specs.declared.Window.{Window}
 use Rattle.template.proofs.Sliding.{slid-context}
 use Rattle.template.specs.White.{Clear, white_window}
 use Rattle.template.proofs.White.{slid-white}
-use Rattle.row.specs.QEngine.{q_engine}
-use Rattle.row.proofs.WrittenRow.{Seven, pelled-still, RowAt, row-again}
+use Rattle.row.proofs.WrittenRow.{Seven, RowAt, row-again}
 
 -- a pel that leaves its context's entry as it is and settles nothing
 abbrev pub stays : {R : Type 0} → R → ℕ → Gives R
@@ -36,17 +34,6 @@ pub record Stills (E : Engine) : Type 0 where
   pub narrow : (m : ℕ) (c : E.Registers) → width (by m c) ≡ width c - m
   pub pelled : (c : E.Registers) (e : ℕ) → E.Ready c → 4096 + E.scheme.size e ≤ width c
       → Pelled E c e true (stays (by (E.scheme.size e) c) e)
-
-abbrev pub q_stills : Stills q_engine
-q_stills =
-    record {
-      width = λ c. c.interval.width;
-      by = still_by;
-      none = still-none;
-      more = λ m n c. still-more m n (m + n) c refl;
-      narrow = λ m c. refl;
-      pelled = λ c e r h. pelled-still c e h;
-    }
 
 -- ---- white pels in context 0, whose entry expects white
 module _ (E : Engine) (K : IsEngine E) (S : Stills E) (seven : Seven E) (width : ℕ) (above row t₀ : List ℕ)

@@ -11,8 +11,9 @@ use Rattle.ground.proofs.Tests.{if-ge}
 use Rattle.estimate.specs.Estimate.{row_of}
 use Rattle.exact.specs.Sight.{Sight, nearer, supplied, seek, decide, above}
 use Rattle.top.specs.declared.Top.{Top}
-use Rattle.top_row.specs.TopRow.{still_pel}
-use Rattle.top_row.proofs.TopPels.{pelled-still}
+use Rattle.top.specs.Top.{narrowed}
+use Rattle.row.specs.AnyEngine.{still_pel}
+use Rattle.row.proofs.TopEngine.{top_pelled-still}
 use Rattle.sight.specs.declared.View.{View}
 use Rattle.sight.specs.declared.Told.{Told}
 use Rattle.sight.specs.Views.{sight_of, ReadPel}
@@ -39,7 +40,7 @@ seek-none (suc n) r h = if-ge r.width 4096 (seek n (nearer (supplied r))) r h
 
 -- ---- one pel: what is in sight says that it is the expected one, and nothing is read
 abbrev pub still_told : Top → View → ℕ → Told
-still_told c v e = record { expected = true; p = e % 2; view = view_by (row_of e) v; pel = still_pel c e }
+still_told c v e = record { expected = true; p = e % 2; view = view_by (row_of e) v; pel = still_pel (narrowed (row_of e) c) }
 
 pub told-still : (c : Top) (v : View) (code : List ℕ) (e : ℕ) → c.width ≤ c.top → 4096 + row_of e ≤ c.width
     → row_of e * 2 ^ v.look ≤ v.x
@@ -49,7 +50,7 @@ told-still c v code e holds wide t a l s =
     record {
       asked = sym (ap not (le-ltb v.x (row_of e * 2 ^ v.look) t));
       told = refl;
-      pelled = pelled-still c e holds wide;
+      pelled = top_pelled-still c e holds wide;
       sight = sym (seek-none 12 (above (row_of e) (sight_of v c.width code)) (omega arith));
       within = a;
       near = l;

@@ -23,8 +23,8 @@ use Rattle.estimate.proofs.LawfulEntries.{row_sized}
 use Rattle.octets.specs.Lift.{lift}
 use Rattle.top.specs.declared.Top.{Top}
 use Rattle.top.specs.Top.{bottom_of}
-use Rattle.top_row.specs.declared.TopPel.{TopPel}
-use Rattle.top_row.specs.TopRow.{Pelled}
+use Rattle.row.specs.declared.Pel.{Pel}
+use Rattle.row.specs.TopEngine.{TopPelled}
 use Rattle.sight.specs.declared.View.{View}
 use Rattle.sight.specs.declared.Told.{Told}
 use Rattle.sight.specs.Views.{seeks, sight_of, ReadPel}
@@ -182,14 +182,14 @@ part_small e l q p a b h =
     omega (arith, mul-le-mul {n₁ = q} {m₁ = p} {n₂ = 2753} {m₂ = 128} (omega (arith, (row_sized e).small)) (omega arith))
 
 -- from what the parts of the code say
-module _ (c : Top) (v : View) (code : List ℕ) (e : ℕ) (b : Bool) (o : ℕ) (u : TopPel) (v₁ v₂ : View) (k : ℕ) where
+module _ (c : Top) (v : View) (code : List ℕ) (e : ℕ) (b : Bool) (o : ℕ) (u : Pel Top) (v₁ v₂ : View) (k : ℕ) where
   abbrev seen : Sight
   seen = sight_of v c.width code
 
   abbrev part' : Sight
   part' = taken (row_of e) b seen
 
-  pub told_moved : decide (row_of e) seen ≡ b → o ≡ pel_of (e % 2) b → Pelled c e b u
+  pub told_moved : decide (row_of e) seen ≡ b → o ≡ pel_of (e % 2) b → TopPelled c e b u
       → part' ≡ sight_of v₁ part'.width code
       → k ≡ doublings 12 (part_of (decision (row_of e) b) (bottom_of c).interval).width
       → ((w : ℕ) → sight_of v₂ (w * 2 ^ k) code ≡ seeks k (sight_of v₁ w code)) → v₂.at ≤ length code → v₂.look ≤ 7

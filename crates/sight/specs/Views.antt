@@ -4,7 +4,7 @@ use Rattle.exact.specs.Sight.{Sight, nearer, supplied, seek, decide, taken}
 use Rattle.coder.specs.Reading.{pel_of}
 use Rattle.estimate.specs.Estimate.{row_of}
 use Rattle.top.specs.declared.Top.{Top}
-use Rattle.top_row.specs.TopRow.{Pelled}
+use Rattle.row.specs.TopEngine.{TopPelled}
 use Rattle.sight.specs.declared.View.{View}
 use Rattle.sight.specs.declared.Told.{Told}
 
@@ -21,7 +21,7 @@ seeks (suc k) r = seeks k (nearer (supplied r))
 pub record ReadPel (c : Top) (v : View) (code : List ℕ) (e : ℕ) (t : Told) : Type 0 where
   pub asked : t.expected ≡ decide (row_of e) (sight_of v c.width code)
   pub told : t.p ≡ pel_of (e % 2) t.expected
-  pub pelled : Pelled c e t.expected t.pel
+  pub pelled : TopPelled c e t.expected t.pel
   pub sight : sight_of t.view t.pel.coder.width code ≡ seek 12
       (taken (row_of e) t.expected (sight_of v c.width code))
   pub within : t.view.at ≤ length code

@@ -14,8 +14,9 @@ ghost use Rattle.exact.specs.Sight as law;
 ghost use Rattle.sight.specs.Views.{sight_of, seeks, ReadPel};
 ghost use Rattle.sight.specs.Still.{view_by};
 
+use octets::Engine;
+use row::Pel;
 use top::Top;
-use top_row::TopPel;
 
 // What is in sight of a code: its bits read so far less the low end, how many of them lie ahead, the byte last read,
 // and where the next stands.
@@ -40,7 +41,7 @@ pub struct Told {
     pub expected: bool,
     pub p: u8,
     pub view: View,
-    pub pel: TopPel,
+    pub pel: Pel<Top>,
 }
 
 // The byte at a place; past the end it is 0.
@@ -117,9 +118,7 @@ impl View {
         let part = n * octets::power(self.look);
         View {
             x: self.x - part,
-            look: self.look,
-            last: self.last,
-            at: self.at,
+            ..self
         }
     }
 
@@ -131,7 +130,7 @@ impl View {
     {
         let still = wide - 0x1000;
         let told = self.x >> self.look;
-        if still < told { still } else { told }
+        still.min(told)
     }
 
     // After k shifts: bytes are read until they reach that far.
@@ -146,10 +145,8 @@ impl View {
             v = v.more(code);
         }
         View {
-            x: v.x,
             look: v.look - k,
-            last: v.last,
-            at: v.at,
+            ..v
         }
     }
 }
@@ -175,31 +172,26 @@ pub fn read_pel(coder: Top, view: View, code: &[u8], e: u8) -> Told
     if part <= view.x {
         let rest = view.still(q);
         if 0x1000 + q <= coder.width {
-            let pel = top_row::still_pel(coder, e, q);
             return Told {
                 expected: true,
                 p: pel_told(e, true),
                 view: rest,
-                pel: pel,
+                pel: row::still_pel(coder, q),
             };
         }
         let v = coder.pel(q, true);
-        let next = rest.advance(code, v.shifts);
-        let pel = top_row::moved_pel(v, estimate::next_entry(e, true));
         return Told {
             expected: true,
             p: pel_told(e, true),
-            view: next,
-            pel: pel,
+            view: rest.advance(code, v.shifts),
+            pel: row::moved_pel(v, estimate::next_entry(e, true)),
         };
     }
     let v = coder.pel(q, false);
-    let next = view.advance(code, v.shifts);
-    let pel = top_row::moved_pel(v, estimate::next_entry(e, false));
     Told {
         expected: false,
         p: pel_told(e, false),
-        view: next,
-        pel: pel,
+        view: view.advance(code, v.shifts),
+        pel: row::moved_pel(v, estimate::next_entry(e, false)),
     }
 }

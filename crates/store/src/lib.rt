@@ -1,22 +1,16 @@
 // Lent buffers: bytes stored at a moving place, a buffer cleared, and the front part handed back.
 #![tactic(auto)]
 
-ghost use Rattle.std.specs.Prelude.{◌≡◌, [], ◌∷◌, ◌+◌, ◌≤◌, ◌<◌, length, take};
+ghost use Rattle.std.specs.Prelude.{◌≡◌, ◌+◌, ◌≤◌, ◌<◌, length};
 ghost use Rattle.std.proofs.Math.Seq.{paste};
-ghost use Rattle.limits.specs.Limits.{farthest, last_bytes};
+ghost use Rattle.limits.specs.Limits.{farthest};
 ghost use Rattle.store.specs.Store.{cleared, front, store_at, stores};
-
-use limits::ROW;
 
 // All of the buffer zero.
 pub fn clear(out: &mut [u8])
     ensures { out.new ≡ cleared out.old }
 {
-    let mut i: usize = 0;
-    while i < out.len() {
-        out[i] = 0;
-        i += 1;
-    }
+    out.fill(0);
 }
 
 // The byte after the first `at`, where there is room for it; the very first, which is no part of the code, is left out.
@@ -34,53 +28,29 @@ pub fn put(out: &mut [u8], at: usize, b: u8) -> usize
     at + 1
 }
 
-// The first n of two bytes.
-pub fn put_two(out: &mut [u8], at: usize, n: usize, first: u8, second: u8) -> usize
-    requires { (n ≤ 2) × (at + n ≤ farthest) }
-    ensures { (result ≡ at + n) × (out.new ≡ stores out.old at (take n (first ∷ second ∷ []))) }
-{
-    if n == 0 {
-        return at;
-    }
-    let next = put(out, at, first);
-    if n == 1 {
-        return next;
-    }
-    put(out, next, second)
-}
-
-// The first n of the last bytes.
-pub fn put_last(out: &mut [u8], at: usize, bytes: [u8; 6], n: usize) -> usize
-    requires { (n ≤ 6) × (at + n ≤ farthest) }
-    ensures { (result ≡ at + n) × (out.new ≡ stores out.old at (take n bytes)) }
+// The last bytes of a code, one after another.
+pub fn put_last(out: &mut [u8], at: usize, bytes: &[u8]) -> usize
+    requires { at + length bytes.now ≤ farthest }
+    ensures { (result ≡ at + length bytes.now) × (out.new ≡ stores out.old at bytes.now) }
 {
     let mut next = at;
-    let mut i: usize = 0;
-    while i < n {
-        next = put(out, next, bytes[i]);
-        i += 1;
+    for byte in bytes {
+        next = put(out, next, *byte);
     }
     next
 }
 
-// The first n bytes of a row, at a place of the buffer.
-pub fn put_row(out: &mut [u8], from: usize, row: [u8; ROW], n: usize)
-    requires { (n ≤ last_bytes) × (from + n ≤ length out.old) }
-    ensures { out.new ≡ paste out.old from row n }
+// A row, at a place of the buffer.
+pub fn put_row(out: &mut [u8], from: usize, row: &[u8])
+    requires { from + length row.now ≤ length out.old }
+    ensures { out.new ≡ paste out.old from row.now (length row.now) }
 {
-    let mut i: usize = 0;
-    while i < n {
-        out[from + i] = row[i];
-        i += 1;
-    }
+    out[from..from + row.len()].copy_from_slice(row);
 }
 
 // The front part of the caller's own buffer: its first n bytes, or the empty part where n is more than its length.
 pub fn front_of(buf: &[u8], n: usize) -> &[u8]
     ensures { result.now ≡ front n buf.now }
 {
-    if n <= buf.len() {
-        return &buf[..n];
-    }
-    &buf[..0]
+    buf.get(..n).unwrap_or_default()
 }

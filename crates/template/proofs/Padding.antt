@@ -1,15 +1,13 @@
 -- A band's padding, row by row: one row with a stray bit decides. Assumes nothing.
-use mathlib.Core.Path.{◌≡◌, sym, ap, ap₂, ◌∙◌}
+use mathlib.Core.Path.{◌≡◌, sym}
 use Prim.Native.Nat.{ℕ, zero, suc, ◌+◌, ◌-◌, ◌*◌, ◌%◌, ◌^◌, ◌≤◌, ◌<◌}
 use native.Mathlib.Omega.{arith}
-use native.Mathlib.Nat.{suc-mul, mul-le-mul_right}
 use native.Mathlib.Numerals.{add-one}
 use lib.Pow.{pow_pos, pow_mono}
 use lib.Dec.{eqb}
-use lib.ListN.{length, get_or, take, drop, length-take, length-drop}
+use lib.ListN.{get_or}
 use mathlib.Core.Bool.{true, false, ◌&&◌}
 use mathlib.Core.List.{List}
-use Rattle.limits.specs.Limits.{max_width, max_rows, max_band}
 use Rattle.ground.proofs.Bools.{and-true, and-false}
 use Rattle.ground.proofs.Tests.{same?}
 use mathlib.Core.Logic.{◌⊎◌, inl, inr, ◌≢◌}
@@ -43,22 +41,3 @@ pub padded-by : (row : List ℕ) (width bytes : ℕ) → bytes ≡ row_bytes wid
     → eqb (get_or row (bytes - 1) 0 % (1 * 2 ^ (8 * bytes - width) % 18446744073709551616)) 0 ≡ row_padded width row
 unfolding row_padded
 padded-by row width bytes e h = rw ((shift_small (8 * bytes - width) (omega arith)).0, e)
-
--- ---- a row is within its band
-pub row_within : (width bytes rows y len : ℕ) → bytes ≡ row_bytes width → width ≤ max_width → rows ≤ max_rows
-    → len ≡ rows * row_bytes width → y < rows
-    → (y * bytes + bytes ≤ len) × (y * bytes + bytes ≤ max_band)
-row_within width bytes rows y len e w r l h =
-    let p : len ≡ rows * bytes = l ∙ ap (λ (n : ℕ). rows * n) (sym e) in
-    let q : suc y * bytes ≤ rows * bytes = mul-le-mul_right bytes h in
-    let s : suc y * bytes ≤ max_rows * bytes = mul-le-mul_right bytes (omega arith) in
-    (omega (arith, suc-mul y bytes), omega (arith, suc-mul y bytes))
-
-pub row_is : (width : ℕ) (band : List ℕ) (bytes y : ℕ) → bytes ≡ row_bytes width → take (y * bytes + bytes - y * bytes)
-    (drop (y * bytes) band) ≡ row_at width band y
-row_is width band bytes y e =
-    let f : y * bytes + bytes - y * bytes ≡ bytes = omega arith in
-    ap₂ (λ (a b : ℕ). take a (drop b band)) (f ∙ e) (ap (λ (a : ℕ). y * a) e)
-
-pub row-long : (band : List ℕ) (n m : ℕ) → m + n ≤ length band → length (take (m + n - m) (drop m band)) ≡ n
-row-long band n m h = simp (length-take, length-drop) (omega arith)

@@ -8,7 +8,8 @@ use native.Mathlib.Omega.{arith}
 use mathlib.Core.List.{List}
 use lib.Bits.{bit_and, bit_or, and_mask, or_shifted}
 use lib.Count.{count_leading_zeros, leading_length}
-use lib.ListN.{get_or, length, get_or-eq_default}
+use lib.ListN.{get_or}
+use Rattle.std.specs.Int.{w64, from_be_bytes}
 use lib.Pow.{pow_pos, pow_mono, pow-add, shl_exact, shr-shr, high, low, field, mod-mod-pow, ones_split, ones_lt}
 use Rattle.template.specs.Pels.{pel_at}
 use Rattle.template.specs.Words.{Word}
@@ -65,6 +66,19 @@ module _ (row : List ℕ) (k n w b : ℕ) (f : Word row k n w) (is : b ≡ get_o
       go i h (yes l) = before i l
       go i h (no l) = own i (omega arith) h
 
+-- eight bytes, as std makes one number of them
+pub word-bytes : (row bytes : List ℕ) (k w : ℕ) → ((i : ℕ) → get_or row i 0 ≤ 255)
+    → ((i : ℕ) → i < 8 → get_or bytes i 0 ≡ get_or row (k + i) 0) → w ≡ from_be_bytes w64 bytes → Word row k 8 w
+word-bytes row bytes k w octet same e = subst (Word row k 8) (omega arith)
+    (more 7 _ (omega arith) (more 6 _ (omega arith) (more 5 _ (omega arith) (more 4 _ (omega arith)
+    (more 3 _ (omega arith) (more 2 _ (omega arith) (more 1 _ (omega arith) (more 0 0 (omega arith) none))))))))
+  where
+    none : Word row k 0 0
+    none = record { small = omega arith; pels = λ i h. absurd (omega arith) }
+
+    more : (n w : ℕ) → n < 8 → Word row k n w → Word row k (suc n) (w * 2 ^ 8 + get_or bytes n 0)
+    more n w h f = word_next row k n w (get_or bytes n 0) f (same n h) (rw (same n h) (octet (k + n)))
+
 -- as a program joins it
 pub word-join : (row : List ℕ) (k n w b : ℕ) → Word row k n w → n < 8 → b ≡ get_or row (k + n) 0 → b ≤ 255
     → Word row k (n + 1)
@@ -72,17 +86,6 @@ pub word-join : (row : List ℕ) (k n w b : ℕ) → Word row k n w → n < 8 �
 word-join row k n w b f h e o =
     rw (add-one, shl_exact {a = w} (8 * n) 8 64 f.small (omega arith), or_shifted w 8 b (omega arith))
     (word_next row k n w b f e o)
-
--- past the row's end a byte is 0
-pub word-past : (row : List ℕ) (k n w : ℕ) → Word row k n w → n < 8 → length row ≤ k + n
-    → Word row k (n + 1) (w * 2 ^ 8 % 2 ^ 64)
-word-past row k n w f h p =
-    rw (add-one, shl_exact {a = w} (8 * n) 8 64 f.small (omega arith))
-    (subst (Word row k (suc n)) none (word_next row k n w 0 f (sym (get_or-eq_default row 0 {n = k + n} p))
-    (omega arith)))
-  where
-    none : w * 2 ^ 8 + 0 ≡ w * 2 ^ 8
-    none = omega arith
 
 -- ---- the number without its first o pels
 mask_is : (o : ℕ) → o ≤ 64 → 18446744073709551615 / 2 ^ o ≡ 2 ^ (64 - o) - 1

@@ -3,7 +3,7 @@
 
 ghost use Rattle.std.specs.Prelude.{◌≡◌, ◌+◌, ◌*◌, ◌%◌, ◌≤◌, ◌<◌, ◌^◌, [], length, get_or};
 ghost use Rattle.limits.specs.Limits.{max_width, max_rows, last_bytes};
-ghost use Rattle.template.specs.Pels.{row_bytes, pel_at, pels_to, row_padded, band_padded};
+ghost use Rattle.template.specs.Pels.{row_bytes, pel_at, pels_to, row_at, row_padded, band_padded};
 ghost use Rattle.template.specs.Window.{Slid, parted};
 ghost use Rattle.template.specs.Words.{Word};
 ghost use Rattle.template.specs.White.{White, Under, Clear, white_window};
@@ -25,92 +25,24 @@ pub fn pel_at(row: &[u8], x: usize) -> u8
     (b >> (7 - x % 8)) % 2
 }
 
-// The pel at x of a packed row of that width, and 0 past its right edge.
-pub fn edge_pel(row: &[u8], width: usize, x: usize) -> usize
-    requires { width ≤ 8 * length row.now }
-    ensures { (result ≡ get_or (pels_to row.now width) x 0) × (result ≤ 1) }
-{
-    if x < width {
-        return pel_at(row, x) as usize;
-    }
-    0
-}
-
-// The padding bits of a row are zero bits.
-pub fn row_padded(row: &[u8], width: usize) -> bool
-    requires { (1 ≤ width) × (width + 7 < 2 ^ 64) × (length row.now ≡ row_bytes width) }
-    ensures { result ≡ row_padded width row.now }
-{
-    let bytes = row_bytes(width);
-    let spare = 8 * bytes - width;
-    let end = row[bytes - 1] as usize;
-    end % (1 << spare) == 0
-}
-
-// And those of every row of a band.
-pub fn band_padded(pels: &[u8], width: usize, rows: usize) -> bool
-    requires { (1 ≤ width) × (width ≤ max_width) × (rows ≤ max_rows) × (length pels.now ≡ rows * row_bytes width) }
-    ensures { result ≡ band_padded width pels.now rows }
-{
-    let bytes = row_bytes(width);
-    let mut y: usize = 0;
-    while y < rows {
-        let from = y * bytes;
-        if !row_padded(&pels[from..from + bytes], width) {
-            return false;
-        }
-        y += 1;
-    }
-    true
-}
-
-// A byte more at the end of the number that n bytes from k on are.
-fn join(row: &[u8], k: usize, n: usize, w: u64) -> u64
-    requires { (k + n < length row.now) × (n < 8) × Word row.now k n w }
-    ensures { Word row.now k (n + 1) result }
-{
-    let b = row[k + n] as u64;
-    w << 8 | b
-}
-
 // Eight bytes from k on as one number, the first on top: one read for the machine.
 fn word_at(row: &[u8], k: usize) -> u64
     requires { k + 8 ≤ length row.now }
     ensures { Word row.now k 8 result }
 {
-    let one = join(row, k, 0, 0);
-    let two = join(row, k, 1, one);
-    let three = join(row, k, 2, two);
-    let four = join(row, k, 3, three);
-    let five = join(row, k, 4, four);
-    let six = join(row, k, 5, five);
-    let seven = join(row, k, 6, six);
-    join(row, k, 7, seven)
+    u64::from_be_bytes(*row[k..k + 8].first_chunk().unwrap())
 }
 
-// The same at the end of a row, where a byte may be missing: it counts as 0.
-fn join_any(row: &[u8], k: usize, n: usize, w: u64) -> u64
-    requires { (k ≤ last_bytes) × (n < 8) × Word row.now k n w }
-    ensures { Word row.now k (n + 1) result }
-{
-    if k + n < row.len() {
-        return join(row, k, n, w);
-    }
-    w << 8
-}
-
-// The first eight bytes of a row that may have less.
+// The first eight bytes of a row that may have less: a missing byte counts as 0.
 fn short_word(row: &[u8]) -> u64
     ensures { Word row.now 0 8 result }
 {
-    let one = join_any(row, 0, 0, 0);
-    let two = join_any(row, 0, 1, one);
-    let three = join_any(row, 0, 2, two);
-    let four = join_any(row, 0, 3, three);
-    let five = join_any(row, 0, 4, four);
-    let six = join_any(row, 0, 5, five);
-    let seven = join_any(row, 0, 6, six);
-    join_any(row, 0, 7, seven)
+    let mut w: u64 = 0;
+    for i in 0..8 {
+        let b = row.get(i).copied().unwrap_or(0);
+        w = w << 8 | b as u64;
+    }
+    w
 }
 
 // Where the white pels from y on end, within the eight bytes from k on, which are w.
@@ -118,8 +50,8 @@ fn white_of(row: &[u8], k: usize, w: u64, y: usize) -> usize
     requires { Word row.now k 8 w × (k ≤ last_bytes) × (8 * k ≤ y) × (y < 8 * k + 64) }
     ensures { (y ≤ result) × (result ≤ 8 * k + 64) × White row.now y result }
 {
-    let mask = 0xFFFFFFFFFFFFFFFFu64 >> (y - 8 * k);
-    let zeros = u64::leading_zeros(w & mask) as usize;
+    let mask = u64::MAX >> (y - 8 * k);
+    let zeros = (w & mask).leading_zeros() as usize;
     8 * k + zeros
 }
 
@@ -140,50 +72,117 @@ fn white_to(row: &[u8], bytes: usize, x: usize) -> usize
         return white_of(row, 0, short_word(row), x);
     }
     let last = bytes - 8;
-    let mut k = if x / 8 < last { x / 8 } else { last };
-    let mut y = white_in(row, k, x);
-    while k + 8 <= last {
-        if y != 8 * k + 64 {
+    let first = (x / 8).min(last);
+    let mut y = white_in(row, first, x);
+    for k in (first + 8..last).step_by(8) {
+        if y < 8 * k {
             return y;
         }
-        k += 8;
         y = white_in(row, k, 8 * k);
     }
-    if y == 8 * k + 64 {
-        if k < last {
-            return white_in(row, last, y);
-        }
-    }
-    y
-}
-
-// Where the pels from x on cease to lie under white ones, up to two places to the right.
-pub fn under_to(above: &[u8], width: usize, x: usize) -> usize
-    requires { (width ≤ max_width) × (width ≤ 8 * length above.now) × (x < width) }
-    ensures { (x ≤ result) × (result ≤ width) × Under (pels_to above.now width) x result }
-{
-    let y = white_to(above, row_bytes(width), x);
-    if width <= y {
-        return width;
-    }
-    if y < x + 2 {
-        return x;
-    }
-    y - 2
-}
-
-// Where the white pels under white ones end.
-pub fn run_to(row: &[u8], above: &[u8], width: usize, x: usize) -> usize
-    requires { (width ≤ max_width) × (width ≤ 8 * length row.now) × (width ≤ 8 * length above.now)
-        × (x < width) }
-    ensures { (x ≤ result) × Clear row.now (pels_to above.now width) width x result }
-{
-    let over = under_to(above, width, x);
-    let y = white_to(row, row_bytes(width), x);
-    if y < over {
+    if y < 8 * last || y == 8 * bytes {
         return y;
     }
-    over
+    white_in(row, last, y)
+}
+
+// A packed row and its width in pels.
+#[derive(Clone, Copy)]
+pub struct Row<'a> {
+    pub bytes: &'a [u8],
+    pub width: usize,
+    pub ghost fits: { width ≤ 8 * length bytes.now },
+}
+
+impl<'a> Row<'a> {
+    // The pel at x, and 0 past the right edge.
+    pub fn edge_pel(self, x: usize) -> usize
+        ensures { (result ≡ get_or (pels_to self.entry.bytes.now self.entry.width) x 0) × (result ≤ 1) }
+    {
+        if x < self.width {
+            return pel_at(self.bytes, x) as usize;
+        }
+        0
+    }
+
+    // The padding bits are zero bits.
+    pub fn is_padded(self) -> bool
+        requires { (1 ≤ self.width) × (self.width + 7 < 2 ^ 64)
+            × (length self.bytes.now ≡ row_bytes self.width) }
+        ensures { result ≡ row_padded self.entry.width self.entry.bytes.now }
+    {
+        let bytes = row_bytes(self.width);
+        let spare = 8 * bytes - self.width;
+        let end = self.bytes[bytes - 1] as usize;
+        end % (1 << spare) == 0
+    }
+
+    // Where the pels from x on cease to lie under this row's white ones, up to two places to the right.
+    pub fn under_to(self, x: usize) -> usize
+        requires { (self.width ≤ max_width) × (x < self.width) }
+        ensures { (x ≤ result) × (result ≤ self.entry.width)
+            × Under (pels_to self.entry.bytes.now self.entry.width) x result }
+    {
+        let y = white_to(self.bytes, row_bytes(self.width), x);
+        if self.width <= y {
+            return self.width;
+        }
+        if y < x + 2 {
+            return x;
+        }
+        y - 2
+    }
+
+    // Where the white pels of the row below end that lie under this row's white ones.
+    pub fn run_to(self, row: &[u8], x: usize) -> usize
+        requires { (self.width ≤ max_width) × (self.width ≤ 8 * length row.now) × (x < self.width) }
+        ensures { (x ≤ result)
+            × Clear row.now (pels_to self.entry.bytes.now self.entry.width) self.entry.width x result }
+    {
+        let over = self.under_to(x);
+        let y = white_to(row, row_bytes(self.width), x);
+        y.min(over)
+    }
+}
+
+// The packed rows of a band.
+#[derive(Clone, Copy)]
+pub struct Band<'a> {
+    pub pels: &'a [u8],
+    pub width: usize,
+    pub rows: usize,
+    pub ghost some: { 1 ≤ width },
+    pub ghost narrow: { width ≤ max_width },
+    pub ghost few: { rows ≤ max_rows },
+    pub ghost whole: { length pels.now ≡ rows * row_bytes width },
+}
+
+impl<'a> Band<'a> {
+    // The row y.
+    pub fn row(self, y: usize) -> Row<'a>
+        requires { y < self.rows }
+        ensures { (result.bytes.now ≡ row_at self.entry.width self.entry.pels.now y)
+            × (result.width ≡ self.entry.width) }
+    {
+        let bytes = row_bytes(self.width);
+        let from = y * bytes;
+        Row {
+            bytes: &self.pels[from..from + bytes],
+            width: self.width,
+        }
+    }
+
+    // The padding bits of every row are zero bits.
+    pub fn is_padded(self) -> bool
+        ensures { result ≡ band_padded self.entry.width self.entry.pels.now self.entry.rows }
+    {
+        for y in 0..self.rows {
+            if !self.row(y).is_padded() {
+                return false;
+            }
+        }
+        true
+    }
 }
 
 // What a pel's context is made of: the five pels of the row above, the two of this row.
@@ -195,13 +194,12 @@ pub struct Window {
 
 impl Window {
     // At the left edge.
-    pub fn start(above: &[u8], width: usize) -> Self
-        requires { width ≤ 8 * length above.now }
-        ensures { Slid (pels_to above.now width) [] 0 result }
+    pub fn start(above: Row) -> Self
+        ensures { Slid (pels_to above.entry.bytes.now above.entry.width) [] 0 result }
     {
-        let a = edge_pel(above, width, 2);
-        let b = edge_pel(above, width, 1);
-        let c = edge_pel(above, width, 0);
+        let a = above.edge_pel(2);
+        let b = above.edge_pel(1);
+        let c = above.edge_pel(0);
         Window {
             above: a + 2 * b + 4 * c,
             this: 0,
@@ -209,11 +207,11 @@ impl Window {
     }
 
     // At x, behind a white run.
-    pub fn white(above: &[u8], width: usize, x: usize) -> Self
-        requires { (width ≤ 8 * length above.now) × (x ≤ max_width) }
-        ensures { result ≡ white_window (pels_to above.now width) x }
+    pub fn white(above: Row, x: usize) -> Self
+        requires { x ≤ max_width }
+        ensures { result ≡ white_window (pels_to above.entry.bytes.now above.entry.width) x }
     {
-        let a = edge_pel(above, width, x + 2);
+        let a = above.edge_pel(x + 2);
         Window { above: a, this: 0 }
     }
 
@@ -236,13 +234,12 @@ impl Window {
     }
 
     // At x + 1, after the pel at x.
-    pub fn slide(self, above: &[u8], width: usize, x: usize, pel: u8) -> Self
-        requires { (width ≤ 8 * length above.now) × (x < max_width) × (pel ≤ 1) × (self.above < 32)
-            × (self.this < 4) }
-        ensures { (result.above ≡ (2 * self.above + get_or (pels_to above.now width) (x + 3) 0) % 32)
+    pub fn slide(self, above: Row, x: usize, pel: u8) -> Self
+        requires { (x < max_width) × (pel ≤ 1) × (self.above < 32) × (self.this < 4) }
+        ensures { (result.above ≡ (2 * self.above + get_or (pels_to above.entry.bytes.now above.entry.width) (x + 3) 0) % 32)
             × (result.this ≡ (2 * self.this + pel) % 4) }
     {
-        let a = edge_pel(above, width, x + 3);
+        let a = above.edge_pel(x + 3);
         let p = pel as usize;
         Window {
             above: (2 * self.above + a) % 32,

@@ -65,7 +65,7 @@ pub top-fits : (t : Top) → Ready (lift (bottom_of t) []) → t.width ≤ t.top
 top-fits t r h = omega (arith, low_fits _ r.rest.fit, r.rest.fit.narrow)
 
 -- r has the bytes that fall due in m shifts; v has the registers after those shifts, with no byte made
-abbrev pub Settles : Put → Coder → ℕ → Type 0
+abbrev pub Settles : Put Coder → Coder → ℕ → Type 0
 Settles r v m =
     (c a s : ℕ) → v.interval.low ≡ c * 2 ^ (m - v.until) → v.interval.width ≡ a * 2 ^ (m - v.until)
     → v.interval.count ≡ s + (m - v.until)
@@ -114,7 +114,7 @@ module _ (t : Top) (q : ℕ) (e : Bool) (ready : Ready (lift (bottom_of t) [])) 
           (split (bottom_of t) q e ready some small (due h)).short,
         )
 
-    pub top-bytes : (r : Put) → n.until ≤ k → Settles r (bottom_of n) k → pel (decision q e) (lift (bottom_of t) [])
+    pub top-bytes : (r : Put Coder) → n.until ≤ k → Settles r (bottom_of n) k → pel (decision q e) (lift (bottom_of t) [])
         ≡ lift r.coder (settled_of r)
     top-bytes r h f =
         let s = split (bottom_of t) q e ready some small (due h) in

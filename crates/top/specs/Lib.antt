@@ -1,1 +1,2 @@
 pub mod Top
+pub mod TopStills

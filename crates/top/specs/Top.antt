@@ -1,9 +1,8 @@
 -- The registers with the code string at the top of the interval. Assumes nothing.
-use Rattle.std.specs.Prelude.{ℕ, ◌+◌, ◌-◌, List, [], ◌∷◌, take}
+use Rattle.std.specs.Prelude.{ℕ, ◌+◌, ◌-◌}
 use Rattle.interval.specs.declared.Interval.{Interval}
 use Rattle.octets.specs.declared.Coder.{Coder}
 use Rattle.top.specs.declared.Top.{Top}
-use Rattle.top.specs.declared.TopPut.{TopPut}
 
 -- the string moved to the bottom: the lower end is the top less the width
 abbrev pub bottom_of : Top → Coder
@@ -34,7 +33,3 @@ within i t = record { interval = i; until = t.until; held = t.held }
 -- k shifts, and no byte
 abbrev pub waited : ℕ → Top → Top
 waited k t = record { top = t.top; width = t.width; count = t.count; until = t.until - k; held = t.held }
-
--- the bytes that a pel settles
-abbrev pub top_settled : TopPut → List ℕ
-top_settled p = take p.settled (p.first ∷ p.second ∷ [])

@@ -1,20 +1,20 @@
 -- A band as the writer meets it, row after row, and its end. Assumes nothing.
 use mathlib.Core.Path.{◌≡◌, refl, sym, ap, ap₂, ◌∙◌, subst, subst₂}
-use Prim.Native.Nat.{ℕ, zero, suc, ◌+◌, ◌-◌, ◌*◌, ◌≤◌, ◌<◌}
-use native.Mathlib.Nat.{zero-add, zero-mul, suc-mul, mul-le-mul_right, mul-le-mul_left}
+use Prim.Native.Nat.{ℕ, suc, ◌+◌, ◌-◌, ◌*◌, ◌≤◌}
+use native.Mathlib.Nat.{zero-add, mul-le-mul_left}
 use native.Mathlib.Numerals.{add-one}
 use native.Mathlib.Omega.{arith}
 use mathlib.Core.Bool.{true, false, ◌&&◌}
 use mathlib.Core.List.{List, [], ◌++◌}
-use lib.ListN.{length, take, drop, length-append, length-take, length-drop}
+use lib.ListN.{length, drop, length-append, length-drop}
 use lib.Dec.{leb}
 use Rattle.ground.proofs.Bools.{both}
+use Rattle.std.specs.Prelude.{Some, None}
 use Rattle.coder.specs.Page.{Page}
 use borrow.Author.Tests.{leb-true}
 use Rattle.engine.specs.Coded.{row_page, Stored}
 use Rattle.engine.proofs.Coded.{coded-revisits, stored-none, stored-append, stored-length}
 use Rattle.engine.proofs.Verdict as end
-use Rattle.estimate.specs.declared.Table.{Table}
 use Rattle.estimate.specs.Estimate.{LawfulTable}
 use Rattle.octets.specs.declared.Coder.{Coder}
 use Rattle.octets.specs.Octets.{Registers, start, finish, ended}
@@ -23,12 +23,12 @@ use Rattle.octets.specs.Lift.{lift}
 use Rattle.octets.proofs.Fit.{ready-start}
 use Rattle.store.specs.Store.{stores, in_front, cleared}
 use Rattle.store.proofs.Store.{stores-append, stores-fit, length-stores}
-use Rattle.template.specs.Pels.{pels_to, row_at, row_bytes, band_to}
+use Rattle.template.specs.Pels.{pels_to, row_at, band_to}
 use Rattle.row.specs.declared.Run.{Run}
 use Rattle.row.specs.QEngine.{q_engine}
 use Rattle.row.specs.WrittenRow.{RowDone}
 use Rattle.row.proofs.QEngine.{q_is_engine}
-use Rattle.limits.specs.Limits.{max_width, max_rows, max_code, last_bytes, max_band}
+use Rattle.limits.specs.Limits.{max_width, max_code}
 use Rattle.band.specs.Band.{page_at, Written, written, last_row, has_room}
 use Rattle.band.proofs.Revisits.{band-size}
 use Rattle.writer.specs.Wrote.{wrote_answer, wrote_out}
@@ -130,27 +130,25 @@ module _ (width rows : ℕ) (last band t₀ out₀ above t : List ℕ) (c : Code
     unfolding has_room
     room-is = rw (end-length, end_same)
 
-    pub with-room : (leb (n₁ - 1) (length out₁) && leb (n₁ - 1) max_code) ≡ true → (table : Table) (row : List ℕ)
+    pub with-room : (leb (n₁ - 1) (length out₁) && leb (n₁ - 1) max_code) ≡ true → (row : List ℕ)
         → row ≡ last_row width rows band
-        → (record {
-          room = true;
+        → (Some (record {
           length = n₁ - 1;
           shifts = c.interval.count;
           revisits = n;
           table = record { entries = t };
           last = row;
-        } ≡ wrote_answer W table last out₀) × (out₁ ≡ wrote_out W out₀)
+        }) ≡ wrote_answer W out₀) × (out₁ ≡ wrote_out W out₀)
     unfolding wrote_answer wrote_out
-    with-room h table row r =
+    with-room h row r =
         let k : has_room W.code out₀ ≡ true = room-is ∙ h in (
-          rw k (λ i. record {
-            room = true;
+          rw k (λ i. Some (record {
             length = end-length i;
             shifts = sym end-shifts i;
             revisits = sym end-revisits i;
             table = record { entries = sym end-table i };
             last = last-is r i;
-          }),
+          })),
           rw k (end-stored ∙ stores-fit out₀ all (subst (λ (x : ℕ). x ≤ length out₀) (end-length ∙ ap length end-code)
               (omega (arith, end_same, leb-true (n₁ - 1) (length out₁) (left-of h))))
               ∙ ap (λ (x : List ℕ). in_front x out₀) (sym end-code)),
@@ -162,83 +160,21 @@ module _ (width rows : ℕ) (last band t₀ out₀ above t : List ℕ) (c : Code
         left-of : (leb (n₁ - 1) (length out₁) && leb (n₁ - 1) max_code) ≡ true → leb (n₁ - 1) (length out₁) ≡ true
         left-of h = (both (leb (n₁ - 1) (length out₁)) (leb (n₁ - 1) max_code) h).0
 
-    pub without-room : (leb (n₁ - 1) (length out₁) && leb (n₁ - 1) max_code) ≡ false → (table : Table)
-        → (record { room = false; length = 0; shifts = 0; revisits = 0; table = table; last = last }
-        ≡ wrote_answer W table last out₀)
-        × (cleared out₁ ≡ wrote_out W out₀)
+    pub without-room : (leb (n₁ - 1) (length out₁) && leb (n₁ - 1) max_code) ≡ false
+        → (None ≡ wrote_answer W out₀) × (cleared out₁ ≡ wrote_out W out₀)
     unfolding wrote_answer wrote_out cleared
-    without-room h table = let k : has_room W.code out₀ ≡ false = room-is ∙ h in (rw k, rw (k, end_same))
+    without-room h = let k : has_room W.code out₀ ≡ false = room-is ∙ h in (rw k refl, rw (k, end_same))
 
--- ---- the rows as parts of a band
-module _ (width : ℕ) (band : List ℕ) (bytes' : ℕ) (is : bytes' ≡ row_bytes width) where
-  row_first : take bytes' band ≡ row_at width band 0
-  row_first = ap₂ (λ (n m : ℕ). take n (drop m band)) is (sym (zero-mul (row_bytes width)))
-
-  part_at : (n m y : ℕ) → n ≡ bytes' → m ≡ y * bytes' → take n (drop m band) ≡ row_at width band y
-  part_at n m y e f = ap₂ (λ (a b : ℕ). take a (drop b band)) (e ∙ is) (f ∙ ap (λ (a : ℕ). y * a) is)
-
-  pub row-part : (y from : ℕ) → from ≡ y * bytes' → take (from + bytes' - from) (drop from band) ≡ row_at width band y
-  row-part y from e = part_at (from + bytes' - from) from y (omega arith) e
-
-  split : (y : ℕ) → 1 ≤ y → y * bytes' ≡ (y - 1) * bytes' + bytes'
-  split zero h = absurd (omega arith)
-  split (suc y) h = suc-mul y bytes' ∙ ap (λ (n : ℕ). n * bytes' + bytes') (less y)
-    where
-      less : (y : ℕ) → y ≡ suc y - 1
-      less y = omega arith
-
-  pub row_before : (y from : ℕ) → 1 ≤ y → from ≡ y * bytes' → take (from - (from - bytes')) (drop (from - bytes') band)
-      ≡ row_at width band (y - 1)
-  row_before y from h e =
-      part_at (from - (from - bytes')) (from - bytes') (y - 1) (omega (arith, split y h)) (omega (arith, split y h))
-
-  pub rows_fit_lem : (rows y : ℕ) → y < rows → rows ≤ max_rows → width ≤ max_width → length band ≡ rows * row_bytes width
-      → (y * bytes' + bytes' ≤ length band) × (length band ≤ max_band)
-  rows_fit_lem rows y h k w l =
-      let p : length band ≡ rows * bytes' = l ∙ ap (λ (n : ℕ). rows * n) (sym is) in
-      let q : suc y * bytes' ≤ rows * bytes' = mul-le-mul_right bytes' h in
-      let r : rows * bytes' ≤ max_rows * bytes' = mul-le-mul_right bytes' k in
-      (omega (arith, suc-mul y bytes'), omega arith)
-
-pub row_inside : (width : ℕ) (band : List ℕ) (rows y : ℕ) → y < rows → length band ≡ rows * row_bytes width
-    → y * row_bytes width + row_bytes width ≤ length band
-row_inside width band rows y h l =
-    let q : suc y * row_bytes width ≤ rows * row_bytes width = mul-le-mul_right (row_bytes width) h in
-    omega (arith, suc-mul y (row_bytes width), l)
-
-pub record Sizes (y bytes' len : ℕ) : Type 0 where
-  pub inside : y * bytes' + bytes' ≤ len
-  pub least : bytes' ≤ y * bytes'
-  pub few : y * bytes' ≤ max_band
-  pub narrow : bytes' ≤ last_bytes
-
-pub sizes : (width y bytes' len : ℕ) → bytes' ≡ row_bytes width → width ≤ max_width → 1 ≤ y → y < max_rows
-    → y * row_bytes width + row_bytes width ≤ len → Sizes y bytes' len
-sizes width y bytes' len is w h k l =
-    let m : y * bytes' ≡ y * row_bytes width = ap (λ (n : ℕ). y * n) is in
-    let f : y * bytes' ≤ max_rows * bytes' = mul-le-mul_right bytes' (omega arith) in
-    record {
-      inside = omega arith;
-      least = omega (arith, mul-le-mul_right bytes' h);
-      few = omega arith;
-      narrow = omega arith;
-    }
-
--- a part of that many bytes is wide enough
-pub part-wide : (width bytes' n m : ℕ) (band : List ℕ) → bytes' ≡ row_bytes width → n ≡ bytes'
-    → m + bytes' ≤ length band → width ≤ 8 * length (take n (drop m band))
-part-wide width bytes' n m band is e h = simp (length-take, length-drop) (omega arith)
-
+-- ---- the rows, one after the other
 -- the first row, under the page's last
-pub band-first : (width : ℕ) (last band t₀ out₀ : List ℕ) (bytes' : ℕ) (c : Coder) (t' : List ℕ) (c' : Coder)
-    (out' : List ℕ) (at' n' : ℕ) → bytes' ≡ row_bytes width → lift c [] ≡ start → LawfulTable t₀
-    → RowDone width (pels_to last width) (take bytes' band) t₀ c out₀ 0 0 t' c' out' at' n'
+pub band-first : (width : ℕ) (last band t₀ out₀ row : List ℕ) (c : Coder) (t' : List ℕ) (c' : Coder)
+    (out' : List ℕ) (at' n' : ℕ) → row ≡ row_at width band 0 → lift c [] ≡ start → LawfulTable t₀
+    → RowDone width (pels_to last width) row t₀ c out₀ 0 0 t' c' out' at' n'
     → BandAt width last band t₀ out₀ (row_at width band 0) t' c' out' at' n' 1
-band-first width last band t₀ out₀ bytes' c t' c' out' at' n' is s l r =
+band-first width last band t₀ out₀ row c t' c' out' at' n' is s l r =
     band-again width last band t₀ out₀ last t₀ c out₀ 0 0 0 (row_at width band 0) t' c' out' at' n'
     (band-start width last band t₀ out₀ c s l) refl
-    (subst (λ (x : List ℕ). RowDone width (pels_to last width) x t₀ c out₀ 0 0 t' c' out' at' n')
-    (row_first width band bytes' is) r)
+    (subst (λ (x : List ℕ). RowDone width (pels_to last width) x t₀ c out₀ 0 0 t' c' out' at' n') is r)
 
 pub start-count : (c : Coder) → lift c [] ≡ start → c.interval.count ≡ 0
 start-count c e = ap (λ (w : Registers). w.interval.count) e

@@ -14,13 +14,14 @@ ghost use Rattle.writer.specs.RowByRow.{BandAt};
 
 use estimate::Table;
 use limits::{MAX_CODE, ROW};
-use octets::Coder;
+use octets::{Coder, Engine};
 use row::Run;
+use template::{Band, Row};
+use top::Top;
 
-// What writing a band gives: whether there was room, n, S, the pels revisited, and the table and last row after it.
+// What writing a band gives where there is room: n, S, the pels revisited, and the table and last row after it.
 #[derive(Clone, Copy)]
 pub struct Wrote {
-    pub room: bool,
     pub length: usize,
     pub shifts: u64,
     pub revisits: u64,
@@ -28,96 +29,52 @@ pub struct Wrote {
     pub last: [u8; ROW],
 }
 
-// The desk writes with the second engine, whose code string points at the top of the interval while a row is coded. The
-// first writes the same, a little slower (docs/DECISIONS.md).
-const TOP: bool = true;
-
-// The first row of a band, under the page's last row, by the second engine or the first. Both this and `write_next` ask
-// which it is: were it asked in one function for both, each row would copy its start, table and all, once more.
-fn write_first(row: &[u8], above: &[u8], width: usize, run: Run, out: &mut [u8], top: bool) -> Run
-    requires { (width ≤ max_width) × (width ≤ 8 * length row.now) × (width ≤ 8 * length above.now) × (1 ≤ width)
-        × LawfulTable run.table.entries × Ready (lift run.coder [])
-        × (run.coder.interval.count + 12 * max_width ≤ max_shifts) × (run.at + 2 * max_width ≤ farthest)
-        × (run.revisits ≤ run.coder.interval.count) }
-    ensures { RowDone width (pels_to above.now width) row.now run.table.entries
-        run.coder out.old run.at run.revisits result.table.entries result.coder out.new
-        result.at result.revisits }
-{
-    if top {
-        return top_row::write_row(row, above, width, run, out);
-    }
-    row::write_row(row, above, width, run, out)
-}
-
 // The row y of a band, under the row before it.
-pub fn write_next(pels: &[u8], y: usize, width: usize, run: Run, out: &mut [u8], top: bool) -> Run
-    requires { (1 ≤ width) × (width ≤ max_width) × (1 ≤ y) × (y < max_rows)
-        × (y * row_bytes width + row_bytes width ≤ length pels.now)
+pub fn write_next<E: Engine>(band: Band, y: usize, run: Run, out: &mut [u8]) -> Run
+    requires { (1 ≤ y) × (y < band.rows)
         × LawfulTable run.table.entries × Ready (lift run.coder [])
         × (run.coder.interval.count + 12 * max_width ≤ max_shifts) × (run.at + 2 * max_width ≤ farthest)
         × (run.revisits ≤ run.coder.interval.count) }
-    ensures { RowDone width (pels_to (row_at width pels.now (y - 1)) width)
-        (row_at width pels.now y) run.table.entries run.coder out.old run.at
+    ensures { RowDone band.entry.width
+        (pels_to (row_at band.entry.width band.entry.pels.now (y - 1)) band.entry.width)
+        (row_at band.entry.width band.entry.pels.now y) run.table.entries run.coder out.old run.at
         run.revisits result.table.entries result.coder out.new result.at result.revisits }
 {
-    let bytes = template::row_bytes(width);
-    let from = y * bytes;
-    let row = &pels[from..from + bytes];
-    let above = &pels[from - bytes..from];
-    if top {
-        return top_row::write_row(row, above, width, run, out);
-    }
-    row::write_row(row, above, width, run, out)
+    row::write_row::<E>(band.row(y).bytes, band.row(y - 1), run, out)
 }
 
 // The rows of a band, the first under the page's last row.
-pub fn write_rows(
-    pels: &[u8],
-    last: [u8; ROW],
-    width: usize,
-    rows: usize,
-    table: Table,
-    out: &mut [u8],
-    top: bool,
-) -> Run
-    requires { (1 ≤ width) × (width ≤ max_width) × (1 ≤ rows) × (rows ≤ max_rows)
-        × (length pels.now ≡ rows * row_bytes width)
-        × LawfulTable table.entries }
-    ensures { BandAt width last pels.now table.entries out.old
-        (row_at width pels.now (rows - 1)) result.table.entries result.coder out.new result.at
-        result.revisits rows }
+pub fn write_rows<E: Engine>(band: Band, last: [u8; ROW], table: Table, out: &mut [u8]) -> Run
+    requires { (1 ≤ band.rows) × LawfulTable table.entries }
+    ensures { BandAt band.entry.width last band.entry.pels.now table.entries out.old
+        (row_at band.entry.width band.entry.pels.now (band.entry.rows - 1)) result.table.entries result.coder
+        out.new result.at result.revisits band.entry.rows }
 {
-    let bytes = template::row_bytes(width);
-    let coder = Coder::start();
     let begun = Run {
-        coder: coder,
-        table: table,
+        coder: Coder::start(),
+        table,
         at: 0,
         revisits: 0,
     };
-    let mut run = write_first(&pels[..bytes], &last, width, begun, out, top);
-    let mut y: usize = 1;
-    while y < rows {
-        run = write_next(pels, y, width, run, out, top);
-        y += 1;
+    let above = Row {
+        bytes: &last,
+        width: band.width,
+    };
+    let mut run = row::write_row::<E>(band.row(0).bytes, above, begun, out);
+    for y in 1..band.rows {
+        run = write_next::<E>(band, y, run, out);
     }
     run
 }
 
 // The last row of a band, in the room that a page has for it.
-pub fn last_row(pels: &[u8], width: usize, rows: usize) -> [u8; ROW]
-    requires { (1 ≤ width) × (width ≤ max_width) × (1 ≤ rows) × (rows ≤ max_rows)
-        × (length pels.now ≡ rows * row_bytes width) }
-    ensures { result ≡ last_row width rows pels.now }
+pub fn last_row(band: Band) -> [u8; ROW]
+    requires { 1 ≤ band.rows }
+    ensures { result ≡ last_row band.entry.width band.entry.rows band.entry.pels.now }
 {
-    let bytes = template::row_bytes(width);
-    let from = (rows - 1) * bytes;
+    let bytes = band.row(band.rows - 1).bytes;
     let mut row = [0u8; ROW];
-    let mut i: usize = 0;
-    while i < bytes {
-        row[i] = pels[from + i];
-        i += 1;
-    }
+    row[..bytes.len()].copy_from_slice(bytes);
     row
 }
 
@@ -125,67 +82,42 @@ pub fn last_row(pels: &[u8], width: usize, rows: usize) -> [u8; ROW]
 pub fn has_room(n: usize, len: usize) -> bool
     ensures { result ≡ (leb n len && leb n max_code) }
 {
-    if n <= len { n <= MAX_CODE } else { false }
+    n <= len && n <= MAX_CODE
 }
 
-// A band into a lent buffer, by the second engine or the first: its code in front and the rest kept, or all zero where
-// there is no room.
-pub fn write_by(
+// A band into a lent buffer, by any engine: its code in front and the rest kept, or all zero where there is no room.
+pub fn write_by<E: Engine>(
     table: Table,
     last: [u8; ROW],
-    width: usize,
-    rows: usize,
-    pels: &[u8],
+    band: Band,
     out: &mut [u8],
-    top: bool,
-) -> Wrote
-    requires { (1 ≤ width) × (width ≤ max_width) × (1 ≤ rows) × (rows ≤ max_rows)
-        × (length pels.now ≡ rows * row_bytes width)
-        × LawfulTable table.entries }
-    ensures { BandWrote width rows table last pels.now out.old result out.new }
+) -> Option<Wrote>
+    requires { (1 ≤ band.rows) × LawfulTable table.entries }
+    ensures { BandWrote band.entry.width band.entry.rows table last band.entry.pels.now out.old result out.new }
 {
-    let run = write_rows(pels, last, width, rows, table, out, top);
-    let coder = run.coder;
-    let shifts = coder.interval.count;
-    let end = coder.finish();
-    let bytes = end.bytes;
-    let n = store::put_last(out, run.at, bytes, end.count) - 1;
-    if has_room(n, out.len()) {
-        let after = run.table;
-        let row = last_row(pels, width, rows);
-        return Wrote {
-            room: true,
-            length: n,
-            shifts: shifts,
-            revisits: run.revisits,
-            table: after,
-            last: row,
-        };
+    let run = write_rows::<E>(band, last, table, out);
+    let shifts = run.coder.interval.count;
+    let end = run.coder.finish();
+    let bytes = end.as_slice();
+    let n = store::put_last(out, run.at, bytes) - 1;
+    if !has_room(n, out.len()) {
+        store::clear(out);
+        return None;
     }
-    store::clear(out);
-    Wrote {
-        room: false,
-        length: 0,
-        shifts: 0,
-        revisits: 0,
-        table: table,
-        last: last,
-    }
+    Some(Wrote {
+        length: n,
+        shifts,
+        revisits: run.revisits,
+        table: run.table,
+        last: last_row(band),
+    })
 }
 
-// The same by the desk's engine.
-pub fn write_band(
-    table: Table,
-    last: [u8; ROW],
-    width: usize,
-    rows: usize,
-    pels: &[u8],
-    out: &mut [u8],
-) -> Wrote
-    requires { (1 ≤ width) × (width ≤ max_width) × (1 ≤ rows) × (rows ≤ max_rows)
-        × (length pels.now ≡ rows * row_bytes width)
-        × LawfulTable table.entries }
-    ensures { BandWrote width rows table last pels.now out.old result out.new }
+// The same by the desk's engine: the second, whose code string points at the top of the interval while a row is coded.
+// The first writes the same, a little slower (docs/DECISIONS.md).
+pub fn write_band(table: Table, last: [u8; ROW], band: Band, out: &mut [u8]) -> Option<Wrote>
+    requires { (1 ≤ band.rows) × LawfulTable table.entries }
+    ensures { BandWrote band.entry.width band.entry.rows table last band.entry.pels.now out.old result out.new }
 {
-    write_by(table, last, width, rows, pels, out, TOP)
+    write_by::<Top>(table, last, band, out)
 }

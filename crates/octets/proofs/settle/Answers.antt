@@ -30,8 +30,7 @@ returns-then-j-b c =
     let a = c.args in
     let b = c.byte_out-b.result in (
       refl,
-      omega arith,
-      (λ k w s e g h. rw c.after_byte-coder.ensures
+      (λ k w s e g h. rw c.after_byte.ensures
           (settle-one a.next a.held a.j b (out past.After-byte_out-b) k w s e g h c.if-j-b.true)),
     )
 
@@ -52,8 +51,7 @@ returns c =
     let d = c.byte_out-d in
     let i = a.j - b.result.bits in (
       refl,
-      omega arith,
-      (λ k w s e g h. rw c.after_byte-coder-2.ensures
+      (λ k w s e g h. rw c.after_byte-2.ensures
           (settle-two a.next a.held a.j b.result (out past.After-byte_out-b) k w s e g h i d.result
           (omega (arith, c.if-j-b.false)) (out₂ past.After-byte_out-d)
           (omega (arith, c.requires.1, b.ensures.0.seven, d.ensures.0.seven)))),

@@ -1,41 +1,27 @@
 -- The last bytes compared with the code. Assumes nothing.
-use mathlib.Core.Path.{◌≡◌, sym}
+use mathlib.Core.Path.{sym, ◌∙◌}
 use native.Mathlib.Numerals.{add-one}
 use native.Mathlib.Omega.{arith}
-use borrow.Author.Rules.{rules}
-use lib.ListN.{length}
+use lib.Seq.{take_all}
 use Rattle.engine.specs.Followed.{matches}
 use Rattle.engine.proofs.Matching.{matches-next, with-true}
 use Rattle.reader.proofs.match_last.Goals as goal
+use Rattle.reader.proofs.match_last.Goals.{then-same, else-same}
 
 pub loop-i-init : goal.loop-i-init
 unfolding matches
-loop-i-init c = (omega arith, sym (with-true _))
-
-pub overflow_add-at : goal.overflow_add-at
-overflow_add-at c = omega arith
-
-pub bounds-bytes-i : goal.bounds-bytes-i
-bounds-bytes-i c = omega arith
-
-pub match_two-same-requires : goal.match_two-same-requires
-match_two-same-requires c = omega arith
-
-pub overflow_add-i : goal.overflow_add-i
-overflow_add-i c = omega arith
-
-pub loop-i-smaller : goal.loop-i-smaller
-loop-i-smaller c = omega arith
+loop-i-init c = sym (with-true _)
 
 pub loop-i-preserved : goal.loop-i-preserved
+unfolding matches
 loop-i-preserved c = let a = c.args in
     let l = c.loop-i in
-    let n : length a.bytes ≡ 6 = search rules in (
-      omega arith,
-      rw add-one (matches-next a.code.now a.bytes a.at l.i a.good l.same _ (omega arith)
-          l.invariant.1 c.match_two-same.ensures),
-    )
+    rw add-one (matches-next a.code.now a.bytes.now a.at l.i a.good l.same _ (omega arith) l.invariant
+    (elim c.if-same.branch [
+      | then-same w ↦ rw w.if-same.true (w.same-is ∙ w.match_one-same.ensures ∙ sym (with-true _))
+      | else-same w ↦ rw w.if-same.false (w.same-is ∙ w.if-same.false)
+    ]))
 
 pub returns : goal.returns
-returns c = let e : c.loop-i.i ≡ c.args.n = omega arith in
-    rw (← e) c.loop-i.invariant.1
+returns c = let a = c.args in
+    rw (take_all c.loop-i.i a.bytes.now c.loop-i-test.false) at c.loop-i.invariant

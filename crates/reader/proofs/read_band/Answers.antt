@@ -42,7 +42,7 @@ compared c v h =
     let f = c.finish-end.result in
     let s = c.match_last-same in
     as-compared (r.good && matches given r.at (take f.count f.bytes)) s.result c.as_long.result
-    (r.at + f.count - 1) (length given) v s.ensures c.as_long.ensures h
+    (r.at + f.count - 1) (length given) v (rw c.as_slice.ensures at s.ensures) c.as_long.ensures h
 
 pub overflow_mul-length : goal.overflow_mul-length
 overflow_mul-length c = let q = c.requires in
@@ -53,32 +53,33 @@ pub returns-then-out-length : goal.returns-then-out-length
 returns-then-out-length c = let a = c.args in
     let s = c.row_bytes in
     let z = fits_not a.width a.rows s.result a.out.now s.ensures c.if-out-length.true in
-    rw c.not_read.ensures (read-nothing a.width a.rows a.table a.last a.code.now a.out.now _ z
-    c.clear.ensures)
+    read-nothing a.width a.rows a.table a.last a.code.now a.out.now _ z c.clear.ensures
 
 pub read_rows-done-requires : goal.read_rows-done-requires
 read_rows-done-requires c = let q = c.requires in
     (q.0, q.1, q.3, rw c.row_bytes.ensures at c.if-out-length.false, q.4)
 
 pub match_last-same-requires : goal.match_last-same-requires
-match_last-same-requires c = (c.finish-end.ensures.2, placed (goal.at.match_last-same-requires c).After-finish-end)
+match_last-same-requires c =
+    let past = goal.at.match_last-same-requires c in
+    rw (c.as_slice.ensures, counts past.After-finish-end) (placed past.After-finish-end)
 
 pub overflow_add-reading : goal.overflow_add-reading
 overflow_add-reading c = omega (arith, placed (goal.at.overflow_add-reading c).After-finish-end)
 
-pub returns-then-as_long : goal.returns-then-as_long
-returns-then-as_long c =
-    let past = goal.at.returns-then-as_long c in
+pub returns-then-not-as_long : goal.returns-then-not-as_long
+returns-then-not-as_long c =
+    let past = goal.at.returns-then-not-as_long c in
     let a = c.args in
     let s = c.row_bytes in
     let d = c.read_rows-done in
     let f = c.finish-end in
     let z = fits-when a.width a.rows s.result a.out.now s.ensures c.if-out-length.false in
-    rw s.ensures (read_done a.width a.rows a.table a.last a.code.now a.out.now d.result.last
-    d.result.reading _ d.ensures (take f.result.count f.result.bytes) f.ensures.0
+    read-damaged a.width a.rows a.table a.last a.code.now a.out.now
+    d.result.last d.result.reading _ d.ensures (take f.result.count f.result.bytes) f.ensures.0
     z (d.result.reading.at + f.result.count)
     (counted d.result.reading.at f.result.count _ (counts past.After-finish-end)) c.requires.2
-    (compared past.After-as_long true c.if-as_long.true))
+    (compared past.After-as_long false c.if-not-as_long.true) _ c.clear-then-not-as_long.ensures d.auto.out
 
 pub returns : goal.returns
 returns c =
@@ -88,8 +89,8 @@ returns c =
     let d = c.read_rows-done in
     let f = c.finish-end in
     let z = fits-when a.width a.rows s.result a.out.now s.ensures c.if-out-length.false in
-    rw c.not_read-2.ensures (read-damaged a.width a.rows a.table a.last a.code.now a.out.now
-    d.result.last d.result.reading _ d.ensures (take f.result.count f.result.bytes) f.ensures.0
+    rw s.ensures (read_done a.width a.rows a.table a.last a.code.now a.out.now d.result.last
+    d.result.reading _ d.ensures (take f.result.count f.result.bytes) f.ensures.0
     z (d.result.reading.at + f.result.count)
     (counted d.result.reading.at f.result.count _ (counts past.After-finish-end)) c.requires.2
-    (compared past.After-as_long false c.if-as_long.false) _ c.clear-2.ensures d.auto.out)
+    (compared past.After-as_long true c.if-not-as_long.false))

@@ -25,20 +25,20 @@ room c =
 pub row_bytes-bytes-requires : goal.row_bytes-bytes-requires
 row_bytes-bytes-requires c = omega arith
 
-pub start-coder-requires : goal.start-coder-requires
-start-coder-requires c = tt
+pub start-requires : goal.start-requires
+start-requires c = tt
 
-pub start-view-requires : goal.start-view-requires
-start-view-requires c = tt
+pub start-requires-2 : goal.start-requires-2
+start-requires-2 c = tt
 
 pub loop-y-init : goal.loop-y-init
 loop-y-init c = let a = c.args in
-    let v = c.start-view in
+    let v = c.start-2 in
     let n : length a.last ≡ last_bytes = search rules in (
       omega arith,
       refl,
       n,
-      reads-start a.width a.last a.code.now a.table a.out.now _ _ c.start-coder.ensures
+      reads-start a.width a.last a.code.now a.table a.out.now _ _ c.start.ensures
           c.requires.4 v.ensures.0
           (record { within = v.ensures.1; near = v.ensures.2; small = v.ensures.3 }),
     )
@@ -52,7 +52,6 @@ read_row-line-requires c = let q = c.requires in
     let f = reads-few _ _ _ _ _ _ _ _ _ b q.1 in
     let t = c.loop-y-test.true in (
       q.1,
-      omega (arith, c.loop-y.invariant.2, q.1),
       q.0,
       b.done.coded.lawful,
       b.done.coded.ready,
@@ -74,12 +73,6 @@ pub put_row-requires : goal.put_row-requires
 put_row-requires c =
     let past = goal.at.put_row-requires c in
     (omega (arith, c.row_bytes-bytes.ensures, c.requires.1), omega (arith, room past.In-loop-y, c.loop-y.invariant.1))
-
-pub overflow_add-y : goal.overflow_add-y
-overflow_add-y c = omega (arith, c.loop-y-test.true, c.requires.2)
-
-pub loop-y-smaller : goal.loop-y-smaller
-loop-y-smaller c = omega (arith, c.loop-y-test.true)
 
 pub loop-y-preserved : goal.loop-y-preserved
 loop-y-preserved c = let a = c.args in

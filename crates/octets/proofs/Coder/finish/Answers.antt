@@ -45,15 +45,12 @@ byte_out-b-requires c =
 pub bounds-bytes-n : goal.bounds-bytes-n
 bounds-bytes-n c = omega (arith, (ending (goal.at.bounds-bytes-n c).At-loop-left).fuel)
 
-pub less-left-requires : goal.less-left-requires
-less-left-requires c = tt
-
 pub overflow_add-n : goal.overflow_add-n
 overflow_add-n c = omega (arith, (ending (goal.at.overflow_add-n c).At-loop-left).fuel)
 
 pub loop-left-smaller : goal.loop-left-smaller
 loop-left-smaller c = let t = c.loop-left-test in
-    rw c.less-left.ensures (omega (arith, c.byte_out-b.ensures.0.seven, t.true))
+    rw c.saturating_sub-left.ensures (omega (arith, c.byte_out-b.ensures.0.seven, t.true))
 
 pub loop-left-preserved : goal.loop-left-preserved
 loop-left-preserved c = λ i r.
@@ -63,7 +60,7 @@ loop-left-preserved c = λ i r.
     let p = c.power in
     let k = l.low * 2 ^ l.until in
     let o : Out l.held k 1 b.result = b.ensures.1 k (rw p.ensures (sym (mul-one _))) in
-    simp (add-one, c.less-left.ensures)
+    simp (add-one, c.saturating_sub-left.ensures)
     (ending-again i l.low l.until l.held b.result o _ _ _ _ (l.invariant i r) (λ z. omega (arith, t.true)))
 
 pub overflow_cast-bytes : goal.overflow_cast-bytes

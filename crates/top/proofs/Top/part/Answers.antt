@@ -1,6 +1,6 @@
 -- The part of the interval that a pel takes: the top moves only where the pel is unexpected. Assumes nothing.
 use native.Mathlib.Omega.{arith}
-use Rattle.top.proofs.Moved.{narrowed-still}
+use Rattle.top.specs.TopStills.{narrowed-still}
 use Rattle.top.proofs.Pels.{lowered}
 use Rattle.top.proofs.Top.part.Goals as goal
 

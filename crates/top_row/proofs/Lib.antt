@@ -1,2 +1,0 @@
-pub mod TopEngine
-pub mod TopPels
