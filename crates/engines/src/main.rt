@@ -4,32 +4,30 @@
 
 ghost use Rattle.std.specs.Prelude.{◌≡◌, ◌*◌, ◌≤◌, length};
 ghost use Rattle.limits.specs.Limits.{max_width, max_rows};
-ghost use Rattle.estimate.specs.Estimate.{LawfulTable};
 ghost use Rattle.template.specs.Pels.{row_bytes};
 
 use estimate::Table;
-use limits::{CONTEXTS, ROW};
+use limits::ROW;
 use lines::Hex;
+use octets::{Coder, Engine};
 use std::io;
-use writer::Wrote;
+use template::Band;
+use top::Top;
 
 // The line of one band by one engine.
-fn line(rt: &impl Print, name: &str, engine: &str, code: &[u8], wrote: Wrote) -> io::Result<()> {
+fn line<E: Engine>(rt: &impl Print, name: &str, engine: &str, band: Band) -> io::Result<()>
+    requires { 1 ≤ band.rows }
+{
+    let mut out = [0u8; 32];
+    let Some(wrote) = writer::write_by::<E>(Table::fresh(), [0; ROW], band, &mut out) else {
+        return println!(rt; "{name} {engine} S=0 revisited=0");
+    };
     println!(rt;
         "{name} {engine}{} S={} revisited={}",
-        Hex(store::front_of(code, wrote.length)),
+        Hex(store::front_of(&out, wrote.length)),
         wrote.shifts,
         wrote.revisits
     )
-}
-
-// The table of a new page.
-fn fresh() -> Table
-    ensures { LawfulTable result.entries }
-{
-    Table {
-        entries: [0u8; CONTEXTS],
-    }
 }
 
 // One band by both.
@@ -37,13 +35,9 @@ fn both(rt: &impl Print, name: &str, width: usize, rows: usize, pels: &[u8]) -> 
     requires { (1 ≤ width) × (width ≤ max_width) × (1 ≤ rows) × (rows ≤ max_rows)
         × (length pels.now ≡ rows * row_bytes width) }
 {
-    let table = fresh();
-    let last = [0u8; ROW];
-    let mut out = [0u8; 32];
-    let first = writer::write_by(table, last, width, rows, pels, &mut out, false);
-    line(rt, name, "first: ", &out, first)?;
-    let second = writer::write_by(table, last, width, rows, pels, &mut out, true);
-    line(rt, name, "second:", &out, second)
+    let band = Band { pels, width, rows };
+    line::<Coder>(rt, name, "first: ", band)?;
+    line::<Top>(rt, name, "second:", band)
 }
 
 fn main(rt: HostRuntime) -> io::Result<()> {

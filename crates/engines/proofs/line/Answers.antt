@@ -4,8 +4,8 @@ use native.Mathlib.Decide.{dec_lt}
 use native.Mathlib.Omega.{arith}
 use lib.ListN.{replicate, get_or, get_or-replicate, get_or-eq_default, length-replicate}
 use Rattle.limits.specs.Limits.{contexts}
-use Rattle.estimate.specs.Estimate.{LawfulTable}
-use Rattle.engines.proofs.fresh.Goals as goal
+use Rattle.estimate.specs.Estimate.{fresh, LawfulTable}
+use Rattle.engines.proofs.line.Goals as goal
 
 zeros : (n : ℕ) → LawfulTable (replicate n 0)
 zeros n cx = go (dec_lt cx n)
@@ -18,5 +18,9 @@ zeros n cx = go (dec_lt cx n)
           (rw (length-replicate {A = ℕ} n 0) (omega arith)),
     )
 
-pub returns : goal.returns
-returns c = zeros contexts
+fresh-lawful : LawfulTable fresh
+unfolding fresh
+fresh-lawful = zeros contexts
+
+pub write_by-requires : goal.write_by-requires
+write_by-requires g c = (c.requires, rw c.fresh.ensures fresh-lawful)
