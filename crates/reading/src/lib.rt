@@ -1,69 +1,52 @@
-// The call that reads a band, and what is told of a code that is no band's. The book goes by value; the arrays are lent
-// in place.
+// The call that reads a band, and what is told of a code that is no band's.
 #![tactic(auto)]
 
 ghost use Rattle.std.specs.Prelude.{◌≡◌};
 ghost use Rattle.marker.specs.Marker.{marked};
-ghost use Rattle.parts.specs.Parts.{parts_of, Sized};
+ghost use Rattle.desk.specs.Allowed.{answer_of};
 ghost use Rattle.desk.specs.Calls.{reads};
-ghost use Rattle.desk.specs.Refusals.{damage};
+ghost use Rattle.desk.specs.Refusals.{damage, number_of};
 ghost use Rattle.parts.specs.Replies.{Serves};
 
-use desk::{Ask, Direction};
+use desk::{Ask, Direction, Done, Refusal};
 use estimate::Table;
-use limits::{CONTEXTS, MAX_CODE, MAX_ROWS, PAGES, PLACES, ROW};
-use parts::{Book, Reply};
-use refusals::Stands;
+use limits::{MAX_CODE, MAX_ROWS};
+use parts::Parts;
+use reader::Fault;
 
-// The number of a code as which no band would have been written: it has a marker, or it is damaged otherwise.
-fn fault(code: &[u8]) -> u64
-    ensures { result ≡ damage (marked code.now) }
+// Why a code is refused as which no band would have been written: it has a marker, or it is damaged otherwise.
+fn fault(code: &[u8]) -> Refusal
+    ensures { number_of result ≡ damage (marked code.now) }
 {
     if marker::marked(code) {
-        return 15;
+        return Refusal::Marker;
     }
-    10
+    Refusal::Damaged
 }
 
 // Read band: the rows that would have been written as exactly that code. The page's table and last row go on as the
 // writer's did.
-pub fn read<'a, 'b, 'c>(
-    book: Book,
-    working: &'a mut [[u8; CONTEXTS]; PAGES],
-    rows: &'a mut [[u8; ROW]; PAGES],
-    learned: &'a mut [[u8; CONTEXTS]; PLACES],
-    ask: Ask,
-    code: &'b [u8],
-    out: &'c mut [u8],
-) -> Reply
-    requires { Sized working.old rows.old learned.old }
-    ensures { Serves (parts_of book working.old rows.old learned.old)
-        (reads ask code.now
-        out.old) result.answer (parts_of result.book working.new rows.new
-        learned.new) out.new }
+pub fn read(desk: &mut Parts, ask: Ask, code: &[u8], out: &mut [u8]) -> Result<Done, Refusal>
+    ensures { Serves desk.old (reads ask code.now out.old) (answer_of result) desk.new out.new }
 {
-    let good = lawful::lawful_desk(book, working, rows, learned);
-    let key = ask.key;
-    let sized = lawful::in_range(ask.rows, MAX_ROWS) & (code.len() <= MAX_CODE);
-    let pages = book.pages;
-    let stands = refusals::page_to(good, key, sized, pages, Direction::Read);
-    let Stands::On(i) = stands else {
-        return refusals::turned_away(stands, book);
-    };
-    let page = pages[i];
+    let sized = lawful::in_range(ask.rows, MAX_ROWS) && code.len() <= MAX_CODE;
+    let i = refusals::page_to(desk, ask.key, sized, Direction::Read)?;
+    let page = desk.book.pages[i];
     let width = page.width as usize;
     let count = ask.rows as usize;
-    let entries = working[i];
-    let last = rows[i];
-    let table = Table { entries: entries };
-    let read = reader::read_band(table, last, width, count, code, out);
-    if !read.room {
-        return parts::refused(9, book);
-    }
-    if !read.good {
-        return parts::refused(fault(code), book);
-    }
-    let row = read.last;
-    let next = parts::put_page(book, working, rows, i, page, read.table, row);
-    parts::done(read.length as u64, read.shifts, read.revisits, next)
+    let table = Table {
+        entries: desk.working[i],
+    };
+    let last = desk.rows[i];
+    let read = match reader::read_band(table, last, width, count, code, out) {
+        Ok(read) => read,
+        Err(Fault::NoRoom) => return Err(Refusal::NoRoom),
+        Err(Fault::Damaged) => return Err(fault(code)),
+    };
+    desk.put_page(i, page, read.table, read.last);
+    Ok(Done {
+        length: read.length as u64,
+        shifts: read.shifts,
+        revisits: read.revisits,
+    })
 }

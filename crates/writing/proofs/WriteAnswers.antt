@@ -5,11 +5,11 @@ use Prim.Native.Nat.{ℕ, ◌*◌}
 use mathlib.Core.Bool.{Bool, true, false, not, cond}
 use mathlib.Core.List.{List, [], ◌∷◌}
 use lib.Dec.{eqb}
+use Rattle.std.specs.Prelude.{Option, Some, None}
 use lib.ListN.{length}
 use borrow.Author.Tests.{eq-eqb, ne_eqb}
 use Rattle.limits.specs.Limits.{max_rows}
 use Rattle.store.specs.Store.{in_front, cleared}
-use Rattle.estimate.specs.declared.Table.{Table}
 use Rattle.template.specs.Pels.{row_bytes, band_padded}
 use Rattle.writer.specs.declared.Wrote.{Wrote}
 use Rattle.band.specs.Band.{Written, has_room}
@@ -26,11 +26,10 @@ use Rattle.desk.specs.Effects.{serves, effect}
 use Rattle.desk.specs.Allowed.{number, effect_on}
 use Rattle.refusals.proofs.Refusing.{paged_to, StoodTo, here, past, at-end}
 
--- what writing a band gives, with room and without
+-- what writing a band gives where there is room
 abbrev pub with_room : Written → Wrote
 with_room w =
     record {
-      room = true;
       length = length w.code;
       shifts = w.shifts;
       revisits = w.revisits;
@@ -38,13 +37,14 @@ with_room w =
       last = w.last;
     }
 
-abbrev without_room : Table → List ℕ → Wrote
-without_room table last =
-    record { room = false; length = 0; shifts = 0; revisits = 0; table = table; last = last }
+-- nothing is given where there is no room, and else what the test of room lets through
+none-full : (y : Bool) (a : Wrote) → None ≡ cond y (Some a) None → y ≡ false
+none-full true a e = cc
+none-full false a e = refl
 
-by-room : (y : Bool) (a b r : Wrote) → r ≡ cond y a b → a.room ≡ true → b.room ≡ false → y ≡ r.room
-by-room true a b r e p q = sym (ap (λ (x : Wrote). x.room) e ∙ p)
-by-room false a b r e p q = sym (ap (λ (x : Wrote). x.room) e ∙ q)
+some-room : (y : Bool) (a w : Wrote) → Some w ≡ cond y (Some a) None → (y ≡ true) × (w ≡ a)
+some-room true a w e = (refl, cc)
+some-room false a w e = absurd (cc)
 
 -- the tests that need the page
 abbrev on_page : Ask → List ℕ → List ℕ → Page → List Row
@@ -79,33 +79,34 @@ module _ (d : Desk) (ask : Ask) (pels out : List ℕ) (i : ℕ) (t : StoodTo d a
         ≡ 8
     write-padding h = on ∙ past _ _ exact ∙ here _ _ (ap not h)
 
-    module _ (a : band_padded page.width pels ask.rows ≡ true) (r : Wrote)
-        (answer : r ≡ wrote_answer (band_of page ask.rows pels) page.table page.last out) where
-      has : has_room (band_of page ask.rows pels).code out ≡ r.room
-      unfolding wrote_answer
-      has =
-          by-room (has_room (band_of page ask.rows pels).code out) (with_room (band_of page ask.rows pels))
-          (without_room page.table page.last) r answer refl refl
+    module _ (a : band_padded page.width pels ask.rows ≡ true) (r : Option Wrote)
+        (answer : r ≡ wrote_answer (band_of page ask.rows pels) out) where
+      module _ (none : r ≡ None) where
+        full : has_room (band_of page ask.rows pels).code out ≡ false
+        unfolding wrote_answer
+        full = none-full _ (with_room (band_of page ask.rows pels)) (sym none ∙ answer)
 
-      module _ (full : r.room ≡ false) where
         pub write-room : number band_of_code d (writes ask pels out) ≡ 9
-        write-room = on ∙ past _ _ exact ∙ past _ _ (ap not a) ∙ here _ _ (ap not (has ∙ full))
+        write-room = on ∙ past _ _ exact ∙ past _ _ (ap not a) ∙ here _ _ (ap not full)
 
         pub cleared-out : wrote_out (band_of page ask.rows pels) out ≡ cleared out
         unfolding wrote_out
-        cleared-out = rw (has ∙ full)
+        cleared-out = rw full
 
-      module _ (room : r.room ≡ true) where
-        pub write-end : number band_of_code d (writes ask pels out) ≡ 0
-        write-end = on ∙ past _ _ exact ∙ past _ _ (ap not a) ∙ past _ _ (ap not (has ∙ room)) ∙ at-end
-
-        pub write-gave : r ≡ with_room (band_of page ask.rows pels)
+      module _ (w : Wrote) (some : r ≡ Some w) where
+        gave : (has_room (band_of page ask.rows pels).code out ≡ true) × (w ≡ with_room (band_of page ask.rows pels))
         unfolding wrote_answer
-        write-gave = rw (has ∙ room) at answer
+        gave = some-room _ (with_room (band_of page ask.rows pels)) w (sym some ∙ answer)
+
+        pub write-end : number band_of_code d (writes ask pels out) ≡ 0
+        write-end = on ∙ past _ _ exact ∙ past _ _ (ap not a) ∙ past _ _ (ap not gave.0) ∙ at-end
+
+        pub write-gave : w ≡ with_room (band_of page ask.rows pels)
+        write-gave = gave.1
 
         pub write-lent : wrote_out (band_of page ask.rows pels) out ≡ in_front (band_of page ask.rows pels).code out
         unfolding wrote_out
-        write-lent = rw (has ∙ room)
+        write-lent = rw gave.0
 
   pub write-effect : effect_on band_of_code d (writes ask pels out)
       ≡ serves page (band_of page ask.rows pels) (band_of page ask.rows pels).code out

@@ -1,4 +1,4 @@
--- Whether there is a marker decides the number. Assumes nothing.
+-- Whether there is a marker decides the refusal. Assumes nothing.
 use mathlib.Core.Path.{sym, ap, ◌∙◌}
 use Rattle.desk.specs.Refusals.{damage}
 use Rattle.reading.proofs.fault.Goals as goal
