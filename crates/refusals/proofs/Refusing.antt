@@ -173,7 +173,8 @@ module _ (d : Desk) (k : Key) (sized : Bool) where
     -- the pages' states are their lines'
     module _ (lines : List PageLine) (states : (i : ℕ) → (get_or d.pages i no_page).state ≡ (get_or lines i
         no_page_line).state) (way : ℕ) where
-      at : (i : ℕ) → page_found d k ≡ Some i → (or_else (open_page d k) no_page).state ≡ (get_or lines i no_page_line).state
+      at : (i : ℕ) → page_found d k ≡ Some i
+          → (or_else (open_page d k) no_page).state ≡ (get_or lines i no_page_line).state
       at i f = ap (λ (x : Found). (or_else (page_by d x) no_page).state) f ∙ states i
 
       module _ (t : Result ℕ Refusal) (was : t ≡ standing_to lines way s) where
