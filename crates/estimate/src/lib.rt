@@ -25,8 +25,7 @@ impl Table {
 }
 
 // The value Q of an entry's row. A match, and not an array, so that the values lie in constant memory and no pel copies
-// them;
-// over five bits, all of whose numbers have an arm, so that no pel asks whether its entry is in the table.
+// them; over five bits, all of whose numbers have an arm, so that no pel asks whether its entry is in the table.
 pub fn row_of(e: u8) -> u64
     requires { LawfulEntry e }
     ensures { result ≡ row_of e }

@@ -26,7 +26,7 @@ pub fn shifts_for(width: u64) -> u64
     requires { (1 ≤ width) × (width < 8192) }
     ensures { (result ≡ doublings 12 width) × (result ≤ 12) }
 {
-    (u64::leading_zeros(width) as u64) - 51
+    width.leading_zeros() as u64 - 51
 }
 
 // How many of n expected pels of the size q fit into so much room.
@@ -60,14 +60,10 @@ impl Interval {
             return Interval {
                 low: self.low + q,
                 width: self.width - q,
-                count: self.count,
+                ..self
             };
         }
-        Interval {
-            low: self.low,
-            width: q,
-            count: self.count,
-        }
+        Interval { width: q, ..self }
     }
 
     // Both doubled while the width is below 1000 hex: all at once.
@@ -79,13 +75,9 @@ impl Interval {
         let low = self.low << k;
         let width = self.width << k;
         let count = self.count + k;
-        let v = Interval {
-            low: low,
-            width: width,
-            count: count,
-        };
+        let interval = Interval { low, width, count };
         Coded {
-            interval: v,
+            interval,
             shifts: k,
         }
     }
@@ -97,7 +89,6 @@ impl Interval {
         ensures { (result.interval ≡ coded (decision q expected) self)
             × (result.shifts ≡ doublings 12 (part_of (decision q expected) self).width) }
     {
-        let part = self.part(q, expected);
-        part.grow()
+        self.part(q, expected).grow()
     }
 }

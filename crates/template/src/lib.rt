@@ -236,7 +236,8 @@ impl Window {
     // At x + 1, after the pel at x.
     pub fn slide(self, above: Row, x: usize, pel: u8) -> Self
         requires { (x < max_width) × (pel ≤ 1) × (self.above < 32) × (self.this < 4) }
-        ensures { (result.above ≡ (2 * self.above + get_or (pels_to above.entry.bytes.now above.entry.width) (x + 3) 0) % 32)
+        ensures { (result.above
+            ≡ (2 * self.above + get_or (pels_to above.entry.bytes.now above.entry.width) (x + 3) 0) % 32)
             × (result.this ≡ (2 * self.this + pel) % 4) }
     {
         let a = above.edge_pel(x + 3);
