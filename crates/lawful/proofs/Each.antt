@@ -59,12 +59,12 @@ used-made q k a u e f = rw (e, f, table-low q.state q.table.entries, u)
 
 -- n is the row's bytes; its padding stands in its last byte
 pub stray-made : (width n : ℕ) (row : List ℕ) (a b : Bool) → n ≡ row_bytes width → 1 ≤ width
-    → a ≡ row_padded width (take (n - 0) row)
+    → a ≡ row_padded width (take n row)
     → b ≡ low 0 (take (length row - n) (drop n row)) → (a && b) ≡ no_stray width row
 unfolding no_stray row_padded
 stray-made width n row a b e h p q =
     ap₂ (λ (x y : Bool). x && y)
-    (p ∙ ap (λ (x : ℕ). eqb (x % 2 ^ (8 * row_bytes width - width)) 0) (get_or-take (n - 0) row (row_bytes width - 1) 0
+    (p ∙ ap (λ (x : ℕ). eqb (x % 2 ^ (8 * row_bytes width - width)) 0) (get_or-take n row (row_bytes width - 1) 0
     (omega arith)))
     (q ∙ ap (λ (xs : List ℕ). low 0 xs) (take_all (length row - n) (drop n row) (omega (arith, length-drop n row)))
     ∙ zero-low (drop n row) ∙ ap (λ (m : ℕ). is_zero (drop m row)) e)

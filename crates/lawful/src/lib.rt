@@ -16,6 +16,7 @@ ghost use Rattle.lawful.specs.Each.{open_right, unused_right, page_known, place_
 use desk::Key;
 use limits::{CONTEXTS, MAX_KEY, MAX_WIDTH, ROW};
 use parts::{Line, PageLine, Parts, PlaceLine, Sought};
+use template::Row;
 
 // 2 × 29 + 1: the highest entry of a table.
 const MAX_ENTRY: u8 = 59;
@@ -58,7 +59,11 @@ fn no_stray(last: &[u8], width: usize) -> bool
     ensures { result ≡ no_stray width last.now }
 {
     let n = template::row_bytes(width);
-    template::row_padded(&last[0..n], width) & is_low(&last[n..last.len()], 0)
+    let row = Row {
+        bytes: &last[..n],
+        width,
+    };
+    row.is_padded() & is_low(&last[n..], 0)
 }
 
 // An open page: its state, key, width, indexes and last row.

@@ -80,7 +80,8 @@ pub struct Book {
     pub places: [PlaceLine; PLACES],
 }
 
-// The desk in memory: what stands at i in an array belongs to line i of the book. C lends it in place.
+// The desk in memory: what stands at i in an array belongs to line i of the book. The arrays lie beside one another,
+// and not in the lines, since C lends this memory in place and keeps desks of this layout.
 #[repr(C)]
 #[derive(Drop)]
 pub struct Parts {

@@ -273,6 +273,13 @@ accepts p q c x after w e f a l =
       whole = w;
     }
 
+-- the answer of a call that gives no length, no S and no pel revisited
+pub nothing-done : (x : Result Done Refusal) (d : Done) → x ≡ Ok d
+    → (d.length ≡ 0) × ((d.shifts ≡ 0) × (d.revisits ≡ 0))
+    → answer_of x ≡ record { number = 0; length = 0; shifts = 0; revisits = 0 }
+nothing-done x d e z =
+    ap answer_of e ∙ λ i. record { number = 0; length = z.0 i; shifts = z.1.0 i; revisits = z.1.1 i }
+
 -- the lent output after a refusal: none is lent; it is kept; it is set to zero
 pub nothing_lent : (n : ℕ) → [] ≡ lent_after n []
 unfolding lent_after cleared

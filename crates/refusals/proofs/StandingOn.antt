@@ -7,25 +7,23 @@ use mathlib.Core.Bool.{Bool, true, false}
 use mathlib.Core.List.{List}
 use lib.ListN.{get_or}
 use borrow.Author.Tests.{eq-eqb, ne_eqb}
-use Rattle.std.specs.Prelude.{Some, None, Result, Ok, Err, is_ok, ok_or}
+use Rattle.std.specs.Prelude.{Some, None, Result, Ok, Err, is_ok}
 use Rattle.ground.proofs.Bools.{no_way}
 use Rattle.desk.specs.declared.Refusal.{Refusal}
 use Rattle.desk.specs.declared.Refusal.TheVariants.{NoPage, OtherDirection}
 use Rattle.desk.specs.Places.{Found}
 use Rattle.parts.specs.declared.PageLine.{PageLine}
 use Rattle.parts.specs.Lines.{no_page_line}
-use Rattle.parts.specs.Finding.{found_below}
-use Rattle.refusals.specs.Stands.{on_page, early, standing, standing_to, stands_below}
+use Rattle.refusals.specs.Stands.{on_page, early, standing, standing_to}
 
 -- a page, or the refusal that there is none
-pub or-page : (f : Found) → ok_or f NoPage ≡ on_page f
+pub on_some : (f : Found) (i : ℕ) → f ≡ Some i → Ok i ≡ on_page f
 unfolding on_page
-or-page (Some i) = refl
-or-page None = refl
+on_some f i e = sym (ap on_page e)
 
-pub or-below : (n : ℕ) (f : Found) → found_below n f → stands_below n (ok_or f NoPage)
-or-below n (Some i) h = h
-or-below n None h = tt
+pub on_none : (f : Found) → f ≡ None → Err NoPage ≡ on_page f
+unfolding on_page
+on_none f e = sym (ap on_page e)
 
 -- the same refusal of a call that asks for a slot
 abbrev asked : Result (Unit {0}) Refusal → Result ℕ Refusal

@@ -33,7 +33,10 @@ pub fn page_for(desk: &Parts, key: Key, sized: bool) -> Result<usize, Refusal>
         × stands_below max_pages result × Whole desk.now }
 {
     early_refusal(desk, key, sized)?;
-    desk.find_page(Sought::Used(key)).ok_or(Refusal::NoPage)
+    let Some(i) = desk.find_page(Sought::Used(key)) else {
+        return Err(Refusal::NoPage);
+    };
+    Ok(i)
 }
 
 // The same, then 7.

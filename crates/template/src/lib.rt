@@ -50,8 +50,8 @@ fn white_of(row: &[u8], k: usize, w: u64, y: usize) -> usize
     requires { Word row.now k 8 w × (k ≤ last_bytes) × (8 * k ≤ y) × (y < 8 * k + 64) }
     ensures { (y ≤ result) × (result ≤ 8 * k + 64) × White row.now y result }
 {
-    let mask = 0xFFFFFFFFFFFFFFFFu64 >> (y - 8 * k);
-    let zeros = u64::leading_zeros(w & mask) as usize;
+    let mask = u64::MAX >> (y - 8 * k);
+    let zeros = (w & mask).leading_zeros() as usize;
     8 * k + zeros
 }
 

@@ -1,15 +1,12 @@
 -- The first three tests, then the search. Assumes nothing.
-use mathlib.Core.Path.{sym, ap, ◌∙◌}
-use Rattle.std.specs.Prelude.{ok_or}
-use Rattle.limits.specs.Limits.{max_pages}
+use mathlib.Core.Path.{sym, ◌∙◌}
 use Rattle.std.proofs.lemmas.Result.{err_from_is_err_and}
-use Rattle.desk.specs.declared.Refusal.TheVariants.{NoPage}
 use Rattle.desk.specs.Lawful.{lawful_key, lawful}
-use Rattle.desk.specs.Places.{Found, page_found}
+use Rattle.desk.specs.Places.{page_found}
 use Rattle.parts.specs.declared.Sought.TheVariants.{Used}
 use Rattle.parts.specs.Parts.{desk_of}
 use Rattle.parts.proofs.Lines.{find-pages}
-use Rattle.refusals.proofs.StandingOn.{or-page, or-below, stopped, went_on}
+use Rattle.refusals.proofs.StandingOn.{on_some, on_none, stopped, went_on}
 use Rattle.refusals.proofs.page_for.Goals as goal
 
 pub returns-in_err-early_refusal : goal.returns-in_err-early_refusal
@@ -23,16 +20,26 @@ returns-in_err-early_refusal c =
       c.in_err-early_refusal.ensures.1,
     )
 
+pub returns-in_default : goal.returns-in_default
+returns-in_default c =
+    let a = c.args in
+    let d = desk_of a.desk.now in
+    let early = c.in_ok-early_refusal.ensures in (
+      on_none (page_found d a.key)
+          (find-pages a.desk.now early.1 (Used a.key) ∙ sym c.find_page.ensures.0 ∙ c.in_default.is)
+          ∙ went_on (lawful d) (lawful_key a.key) a.sized (page_found d a.key) _ early.0,
+      tt,
+      early.1,
+    )
+
 pub returns : goal.returns
 returns c =
     let a = c.args in
     let d = desk_of a.desk.now in
-    let early = c.in_ok-early_refusal.ensures in
-    let found = c.find_page.ensures in (
-      c.ok_or.ensures.value
-          ∙ ap (λ (f : Found). ok_or f NoPage) (found.0 ∙ sym (find-pages a.desk.now early.1 (Used a.key)))
-          ∙ or-page (page_found d a.key)
+    let early = c.in_ok-early_refusal.ensures in (
+      on_some (page_found d a.key) c.in-Some.i
+          (find-pages a.desk.now early.1 (Used a.key) ∙ sym c.find_page.ensures.0 ∙ c.in-Some.is)
           ∙ went_on (lawful d) (lawful_key a.key) a.sized (page_found d a.key) _ early.0,
-      rw c.ok_or.ensures.value (or-below max_pages c.find_page.result found.1),
+      rw c.in-Some.is at c.find_page.ensures.1,
       early.1,
     )
