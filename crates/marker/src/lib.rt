@@ -8,12 +8,6 @@ ghost use Rattle.marker.specs.Marker.{marked};
 pub fn marked(code: &[u8]) -> bool
     ensures { result ≡ marked code.now }
 {
-    let mut i: usize = 1;
-    while i < code.len() {
-        if (code[i - 1] == 0xFF) & (code[i] >= 0x90) {
-            return true;
-        }
-        i += 1;
-    }
-    false
+    code.windows(2)
+        .any(|pair| pair[0] == 0xFF && pair[1] >= 0x90)
 }

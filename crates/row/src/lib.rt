@@ -88,7 +88,7 @@ fn put_pel<E: Engine>(coder: E, e: u8, expected: bool) -> Pel<E>
 }
 
 // The bytes that a pel settled.
-fn put_settled(out: &mut [u8], at: usize, bytes: Settled) -> usize
+pub fn put_settled(out: &mut [u8], at: usize, bytes: Settled) -> usize
     requires { at + length (bytes_of bytes) ≤ farthest }
     ensures { (result ≡ at + length (bytes_of bytes)) × (out.new ≡ stores out.old at (bytes_of bytes)) }
 {

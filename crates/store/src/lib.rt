@@ -1,7 +1,7 @@
 // Lent buffers: bytes stored at a moving place, a buffer cleared, and the front part handed back.
 #![tactic(auto)]
 
-ghost use Rattle.std.specs.Prelude.{◌≡◌, [], ◌∷◌, ◌+◌, ◌≤◌, ◌<◌, length, take};
+ghost use Rattle.std.specs.Prelude.{◌≡◌, ◌+◌, ◌≤◌, ◌<◌, length};
 ghost use Rattle.std.proofs.Math.Seq.{paste};
 ghost use Rattle.limits.specs.Limits.{farthest};
 ghost use Rattle.store.specs.Store.{cleared, front, store_at, stores};
@@ -26,21 +26,6 @@ pub fn put(out: &mut [u8], at: usize, b: u8) -> usize
         return at + 1;
     }
     at + 1
-}
-
-// The first n of two bytes.
-pub fn put_two(out: &mut [u8], at: usize, n: usize, first: u8, second: u8) -> usize
-    requires { (n ≤ 2) × (at + n ≤ farthest) }
-    ensures { (result ≡ at + n) × (out.new ≡ stores out.old at (take n (first ∷ second ∷ []))) }
-{
-    if n == 0 {
-        return at;
-    }
-    let next = put(out, at, first);
-    if n == 1 {
-        return next;
-    }
-    put(out, next, second)
 }
 
 // The last bytes of a code, one after another.

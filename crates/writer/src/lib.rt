@@ -14,7 +14,7 @@ ghost use Rattle.writer.specs.RowByRow.{BandAt};
 
 use estimate::Table;
 use limits::{MAX_CODE, ROW};
-use octets::Coder;
+use octets::{Coder, Engine};
 use row::Run;
 use template::{Band, Row};
 use top::Top;
@@ -29,29 +29,8 @@ pub struct Wrote {
     pub last: [u8; ROW],
 }
 
-// The desk writes with the second engine, whose code string points at the top of the interval while a row is coded. The
-// first writes the same, a little slower (docs/DECISIONS.md).
-const TOP: bool = true;
-
-// The first row of a band, under the page's last row, by the second engine or the first. Both this and `write_next` ask
-// which it is: were it asked in one function for both, each row would copy its start, table and all, once more.
-fn write_first(row: &[u8], above: Row, run: Run, out: &mut [u8], top: bool) -> Run
-    requires { (above.width ≤ max_width) × (above.width ≤ 8 * length row.now) × (1 ≤ above.width)
-        × LawfulTable run.table.entries × Ready (lift run.coder [])
-        × (run.coder.interval.count + 12 * max_width ≤ max_shifts) × (run.at + 2 * max_width ≤ farthest)
-        × (run.revisits ≤ run.coder.interval.count) }
-    ensures { RowDone above.entry.width (pels_to above.entry.bytes.now above.entry.width) row.now run.table.entries
-        run.coder out.old run.at run.revisits result.table.entries result.coder out.new
-        result.at result.revisits }
-{
-    if top {
-        return row::write_row::<Top>(row, above, run, out);
-    }
-    row::write_row::<Coder>(row, above, run, out)
-}
-
 // The row y of a band, under the row before it.
-pub fn write_next(band: Band, y: usize, run: Run, out: &mut [u8], top: bool) -> Run
+pub fn write_next<E: Engine>(band: Band, y: usize, run: Run, out: &mut [u8]) -> Run
     requires { (1 ≤ y) × (y < band.rows)
         × LawfulTable run.table.entries × Ready (lift run.coder [])
         × (run.coder.interval.count + 12 * max_width ≤ max_shifts) × (run.at + 2 * max_width ≤ farthest)
@@ -61,16 +40,11 @@ pub fn write_next(band: Band, y: usize, run: Run, out: &mut [u8], top: bool) -> 
         (row_at band.entry.width band.entry.pels.now y) run.table.entries run.coder out.old run.at
         run.revisits result.table.entries result.coder out.new result.at result.revisits }
 {
-    let row = band.row(y);
-    let above = band.row(y - 1);
-    if top {
-        return row::write_row::<Top>(row.bytes, above, run, out);
-    }
-    row::write_row::<Coder>(row.bytes, above, run, out)
+    row::write_row::<E>(band.row(y).bytes, band.row(y - 1), run, out)
 }
 
 // The rows of a band, the first under the page's last row.
-pub fn write_rows(band: Band, last: [u8; ROW], table: Table, out: &mut [u8], top: bool) -> Run
+pub fn write_rows<E: Engine>(band: Band, last: [u8; ROW], table: Table, out: &mut [u8]) -> Run
     requires { (1 ≤ band.rows) × LawfulTable table.entries }
     ensures { BandAt band.entry.width last band.entry.pels.now table.entries out.old
         (row_at band.entry.width band.entry.pels.now (band.entry.rows - 1)) result.table.entries result.coder
@@ -86,9 +60,9 @@ pub fn write_rows(band: Band, last: [u8; ROW], table: Table, out: &mut [u8], top
         bytes: &last,
         width: band.width,
     };
-    let mut run = write_first(band.row(0).bytes, above, begun, out, top);
+    let mut run = row::write_row::<E>(band.row(0).bytes, above, begun, out);
     for y in 1..band.rows {
-        run = write_next(band, y, run, out, top);
+        run = write_next::<E>(band, y, run, out);
     }
     run
 }
@@ -111,19 +85,17 @@ pub fn has_room(n: usize, len: usize) -> bool
     n <= len && n <= MAX_CODE
 }
 
-// A band into a lent buffer, by the second engine or the first: its code in front and the rest kept, or all zero where
-// there is no room.
-pub fn write_by(
+// A band into a lent buffer, by any engine: its code in front and the rest kept, or all zero where there is no room.
+pub fn write_by<E: Engine>(
     table: Table,
     last: [u8; ROW],
     band: Band,
     out: &mut [u8],
-    top: bool,
 ) -> Option<Wrote>
     requires { (1 ≤ band.rows) × LawfulTable table.entries }
     ensures { BandWrote band.entry.width band.entry.rows table last band.entry.pels.now out.old result out.new }
 {
-    let run = write_rows(band, last, table, out, top);
+    let run = write_rows::<E>(band, last, table, out);
     let shifts = run.coder.interval.count;
     let end = run.coder.finish();
     let bytes = end.as_slice();
@@ -141,10 +113,11 @@ pub fn write_by(
     })
 }
 
-// The same by the desk's engine.
+// The same by the desk's engine: the second, whose code string points at the top of the interval while a row is coded.
+// The first writes the same, a little slower (docs/DECISIONS.md).
 pub fn write_band(table: Table, last: [u8; ROW], band: Band, out: &mut [u8]) -> Option<Wrote>
     requires { (1 ≤ band.rows) × LawfulTable table.entries }
     ensures { BandWrote band.entry.width band.entry.rows table last band.entry.pels.now out.old result out.new }
 {
-    write_by(table, last, band, out, TOP)
+    write_by::<Top>(table, last, band, out)
 }

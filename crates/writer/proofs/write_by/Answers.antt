@@ -8,15 +8,16 @@ use Rattle.writer.proofs.RowByRow.{band-few, with-room, without-room}
 use Rattle.writer.proofs.write_by.Goals as goal
 
 pub put_last-n-requires : goal.put_last-n-requires
-put_last-n-requires c = let a = c.args in
+put_last-n-requires g c = let a = c.args in
     let end = c.finish-end in
     let f = band-few a.band.width a.last a.band.pels.now a.table.entries a.out.now _ _ _ _ _ _ _
     c.write_rows-run.ensures a.band.narrow in
-    let n : length c.as_slice-bytes.result.now ≤ end.result.count = rw c.as_slice-bytes.ensures (simp length-take (omega arith)) in
+    let n : length c.as_slice-bytes.result.now ≤ end.result.count
+    = rw c.as_slice-bytes.ensures (simp length-take (omega arith)) in
     omega (arith, n, f.1, end.ensures.2, a.band.few)
 
 pub returns-then-not-has_room : goal.returns-then-not-has_room
-returns-then-not-has_room c = let a = c.args in
+returns-then-not-has_room g c = let a = c.args in
     let w = c.write_rows-run in
     let p = c.put_last-n in
     let z = without-room a.band.width a.band.rows a.last a.band.pels.now a.table.entries a.out.now
@@ -26,7 +27,7 @@ returns-then-not-has_room c = let a = c.args in
     (z.0, c.clear.ensures ∙ z.1)
 
 pub returns : goal.returns
-returns c = let a = c.args in
+returns g c = let a = c.args in
     let w = c.write_rows-run in
     let p = c.put_last-n in
     with-room a.band.width a.band.rows a.last a.band.pels.now a.table.entries a.out.now

@@ -8,31 +8,32 @@ use Rattle.octets.specs.Fit.{Ready}
 use Rattle.octets.proofs.Fit.{ready-start}
 use Rattle.writer.specs.RowByRow.{BandAt}
 use Rattle.writer.proofs.RowByRow.{band-first, start-count, keep-next, band-few}
+use Rattle.writer.proofs.write_rows.Given.{Over}
 use Rattle.writer.proofs.write_rows.Goals as goal
-use Rattle.writer.proofs.write_rows.Goals.{After-write_first-run, At-loop-y}
+use Rattle.writer.proofs.write_rows.Goals.{After-write_row-run, At-loop-y}
 
 -- ---- what is known at each
 -- the first row
-begun : (c : After-write_first-run) → let a = c.args in let band = a.band in let w = c.write_first-run in
+begun : (g : Over) (c : After-write_row-run g) → let a = c.args in let band = a.band in let w = c.write_row-run in
     BandAt band.width a.last band.pels.now a.table.entries a.out.now (row_at band.width band.pels.now 0)
     w.result.table.entries w.result.coder w.new.out w.result.at w.result.revisits 1
-begun c =
+begun g c =
     let a = c.args in
     band-first a.band.width a.last a.band.pels.now a.table.entries a.out.now _ c.start.result _ _ _ _ _
-    c.row.ensures.0 c.start.ensures c.requires.1 c.write_first-run.ensures
+    c.row.ensures.0 c.start.ensures c.requires.1 c.write_row-run.ensures
 
 -- the rows so far
-kept : (c : At-loop-y) → let a = c.args in let band = a.band in let l = c.loop-y in
+kept : (g : Over) (c : At-loop-y g) → let a = c.args in let band = a.band in let l = c.loop-y in
     BandAt band.width a.last band.pels.now a.table.entries a.out.now
     (row_at band.width band.pels.now (l.y - 1)) l.run.table.entries l.run.coder l.out l.run.at
     l.run.revisits l.y
-kept c =
-    let past = goal.at.At-loop-y c in
-    let a = c.args in c.loop-y.invariant.3 a.last a.table.entries a.out.now (begun past.After-write_first-run)
+kept g c =
+    let past = goal.at.At-loop-y g c in
+    let a = c.args in c.loop-y.invariant.3 a.last a.table.entries a.out.now (begun g past.After-write_row-run)
 
 -- ---- the answers
-pub write_first-run-requires : goal.write_first-run-requires
-write_first-run-requires c = let a = c.args in
+pub write_row-run-requires : goal.write_row-run-requires
+write_row-run-requires g c = let a = c.args in
     let k = c.start in (
       a.band.narrow,
       rw c.row.ensures.1 at c.row.result.fits,
@@ -45,9 +46,9 @@ write_first-run-requires c = let a = c.args in
     )
 
 pub write_next-run-requires : goal.write_next-run-requires
-write_next-run-requires c = let band = c.args.band in
+write_next-run-requires g c = let band = c.args.band in
     let l = c.loop-y in
-    let b = kept (goal.at.write_next-run-requires c).At-loop-y in
+    let b = kept g (goal.at.write_next-run-requires g c).At-loop-y in
     let f = band-few _ _ _ _ _ _ _ _ _ _ _ _ b band.narrow in
     let t : l.y < band.rows = c.loop-y-test.true in (
       omega (arith, l.invariant.0),
@@ -60,7 +61,7 @@ write_next-run-requires c = let band = c.args.band in
     )
 
 pub loop-y-preserved : goal.loop-y-preserved
-loop-y-preserved c = let band = c.args.band in
+loop-y-preserved g c = let band = c.args.band in
     let l = c.loop-y in
     let v = c.write_next-run in (
       omega (arith, l.invariant.0),
@@ -71,6 +72,6 @@ loop-y-preserved c = let band = c.args.band in
     )
 
 pub returns : goal.returns
-returns c = let l = c.loop-y in
+returns g c = let l = c.loop-y in
     let e : l.y ≡ c.args.band.rows = omega (arith, l.invariant.1, c.loop-y-test.false) in
-    rw (← e) (kept (goal.at.returns c).At-loop-y)
+    rw (← e) (kept g (goal.at.returns g c).At-loop-y)
