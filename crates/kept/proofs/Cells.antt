@@ -11,8 +11,8 @@ use Rattle.turns.proofs.Shelves.{cell_at}
 use Rattle.estimate.specs.declared.Table.{Table}
 use Rattle.desk.specs.declared.Key.{Key}
 use Rattle.desk.specs.Desk.{Page, Place, Desk}
-use Rattle.desk.specs.declared.Found.{Found}
-use Rattle.desk.specs.declared.Found.TheVariants.{At, Nothing}
+use Rattle.desk.specs.Places.{Found}
+use Rattle.std.specs.Prelude.{Some, None}
 use Rattle.desk.specs.Places.{is_used, is_learned, no_page, no_place, same_key, is_page_of, is_table_of, is_free_page, is_free_place}
 use Rattle.desk.specs.Places.{page_found, table_found, free_page_found, free_place_found, is_found}
 use Rattle.desk.specs.Lawful.{lawful_page, lawful_place}
@@ -31,16 +31,16 @@ module _ (d : Desk) (s : Sound d) (k : Key) where
   page-pick = go (page_found d k) ∙ value_found (is_page_of k) no_page d.pages
     where
       go : (f : Found) → page_by d f ≡ value_at f d.pages no_page
-      go (At i) = refl
-      go Nothing = refl
+      go (Some i) = refl
+      go None = refl
 
   table-pick : learned_table d k ≡ mapped (λ (q : Place). q.table) (pick (is_table_of k) d.places)
   table-pick = go (table_found d k) ∙ ap (mapped (λ (q : Place). q.table)) (value_found (is_table_of k) no_place
       d.places)
     where
       go : (f : Found) → table_by d f ≡ mapped (λ (q : Place). q.table) (value_at f d.places no_place)
-      go (At i) = refl
-      go Nothing = refl
+      go (Some i) = refl
+      go None = refl
 
   pub page-is : open_page d k ≡ (cell_of d k).page
   unfolding shelves

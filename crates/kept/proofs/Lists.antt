@@ -9,8 +9,8 @@ use lib.ListN.{get_or, set}
 use Rattle.ground.specs.Options.{given}
 use Rattle.ground.proofs.Bools.{no_way, both, and-true}
 use Rattle.turns.proofs.SlotRows.{at_first}
-use Rattle.desk.specs.declared.Found.{Found}
-use Rattle.desk.specs.declared.Found.TheVariants.{At, Nothing}
+use Rattle.desk.specs.Places.{Found}
+use Rattle.std.specs.Prelude.{Some, None}
 use Rattle.desk.specs.Places.{find_by, is_found}
 use Rattle.desk.specs.Changes.{set_at}
 use Rattle.desk.specs.Lawful.{all, any}
@@ -53,31 +53,31 @@ found-given t s i = found-any t s i ∙ sym (pick-any t s)
 
 -- what stands at the index found
 abbrev pub value_at : {A : Type 0} → Found → List A → A → Option A
-value_at (At i) s z = some (get_or s i z)
-value_at Nothing s z = none
+value_at (Some i) s z = some (get_or s i z)
+value_at None s z = none
 
 -- with the index written as an offset, so that nothing is subtracted
-found_from : {A : Type 0} (t : A → Bool) (z a : A) (s : List A) (b i : ℕ) → find_by t s b ≡ At i → (n : ℕ) × (i ≡ b + n)
+found_from : {A : Type 0} (t : A → Bool) (z a : A) (s : List A) (b i : ℕ) → find_by t s b ≡ Some i → (n : ℕ) × (i ≡ b + n)
     × (some (get_or s n z) ≡ pick t s) × (set s n a ≡ at_first t a s)
 unfolding find_by at_first pick
 found_from t z a [] b i e = no_way (ap is_found (sym e))
 found_from {A} t z a (x ∷ s) b i e = go (t x) e (λ f. found_from t z a s (suc b) i f)
   where
-    go : (v : Bool) → cond v (At b) (find_by t s (suc b)) ≡ At i
-        → (find_by t s (suc b) ≡ At i → (n : ℕ) × (i ≡ suc b + n) × (some (get_or s n z) ≡ pick t s)
+    go : (v : Bool) → cond v (Some b) (find_by t s (suc b)) ≡ Some i
+        → (find_by t s (suc b) ≡ Some i → (n : ℕ) × (i ≡ suc b + n) × (some (get_or s n z) ≡ pick t s)
         × (set s n a ≡ at_first t a s))
         → (n : ℕ) × (i ≡ b + n) × (some (get_or (x ∷ s) n z) ≡ cond v (some x) (pick t s))
         × (set (x ∷ s) n a ≡ cond v (a ∷ s) (x ∷ at_first t a s))
     go true f ih = let q : b ≡ i = cc in (0, omega arith, refl, refl)
     go false f ih = let (n, p, q, r) = ih f in (suc n, omega arith, q, ap (λ l. x ∷ l) r)
 
-found_none : {A : Type 0} (t : A → Bool) (a : A) (s : List A) (b : ℕ) → find_by t s b ≡ Nothing → (none ≡ pick t s)
+found_none : {A : Type 0} (t : A → Bool) (a : A) (s : List A) (b : ℕ) → find_by t s b ≡ None → (none ≡ pick t s)
     × (s ≡ at_first t a s)
 unfolding find_by at_first pick
 found_none t a [] b e = (refl, refl)
 found_none {A} t a (x ∷ s) b e = go (t x) e (found_none t a s (suc b))
   where
-    go : (v : Bool) → cond v (At b) (find_by t s (suc b)) ≡ Nothing → (find_by t s (suc b) ≡ Nothing → (none ≡ pick t s)
+    go : (v : Bool) → cond v (Some b) (find_by t s (suc b)) ≡ None → (find_by t s (suc b) ≡ None → (none ≡ pick t s)
         × (s ≡ at_first t a s))
         → (none ≡ cond v (some x) (pick t s)) × (x ∷ s ≡ cond v (a ∷ s) (x ∷ at_first t a s))
     go true f ih = no_way (ap is_found f)
@@ -87,15 +87,15 @@ pub value_found : {A : Type 0} (t : A → Bool) (z : A) (s : List A) → value_a
 value_found {A} t z s = go (find_by t s 0) refl
   where
     go : (f : Found) → find_by t s 0 ≡ f → value_at f s z ≡ pick t s
-    go (At i) e = let (n, p, q, r) = found_from t z z s 0 i e in let f : i ≡ n = omega arith in rw f q
-    go Nothing e = (found_none t z s 0 e).0
+    go (Some i) e = let (n, p, q, r) = found_from t z z s 0 i e in let f : i ≡ n = omega arith in rw f q
+    go None e = (found_none t z s 0 e).0
 
 pub set_found : {A : Type 0} (t : A → Bool) (a : A) (s : List A) → set_at (find_by t s 0) a s ≡ at_first t a s
 set_found {A} t a s = go (find_by t s 0) refl
   where
     go : (f : Found) → find_by t s 0 ≡ f → set_at f a s ≡ at_first t a s
-    go (At i) e = let (n, p, q, r) = found_from t a a s 0 i e in let f : i ≡ n = omega arith in rw f r
-    go Nothing e = (found_none t a s 0 e).1
+    go (Some i) e = let (n, p, q, r) = found_from t a a s 0 i e in let f : i ≡ n = omega arith in rw f r
+    go None e = (found_none t a s 0 e).1
 
 -- ---- a change at the first that passes
 pub all_first : {A : Type 0} (p t : A → Bool) (a : A) (s : List A) → all p s ≡ true → p a ≡ true

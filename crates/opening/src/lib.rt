@@ -1,104 +1,69 @@
-// The call that opens a page. The book goes by value; the arrays are lent in place.
+// The call that opens a page.
 #![tactic(auto)]
 
 ghost use Rattle.std.specs.Prelude.{◌≡◌, [], ◌<◌};
 ghost use Rattle.limits.specs.Limits.{max_pages};
-ghost use Rattle.parts.specs.Parts.{parts_of, desk_of, Sized, Whole};
+ghost use Rattle.parts.specs.Parts.{desk_of, Whole};
+ghost use Rattle.desk.specs.Allowed.{answer_of};
 ghost use Rattle.desk.specs.Calls.{opens};
 ghost use Rattle.parts.specs.Replies.{outcome_of, Serves};
 ghost use Rattle.opening.specs.Opening.{new_line, open_new};
 
-use desk::{Found, Opening};
+use desk::{Done, Opening, Refusal};
 use estimate::Table;
-use limits::{CONTEXTS, MAX_WIDTH, PAGES, PLACES, ROW};
-use parts::{Book, PageLine, PlaceLine, Reply, Sought};
+use limits::{CONTEXTS, MAX_WIDTH, ROW};
+use parts::{PageLine, Parts, PlaceLine, Sought};
 
 // The line of a page that is opened.
 fn new_line(ask: Opening) -> PageLine
     ensures { result ≡ new_line ask }
 {
-    let way = ask.direction;
-    let key = ask.key;
     PageLine {
-        state: refusals::state_for(way),
-        key: key,
+        state: ask.direction.into(),
+        key: ask.key,
         width: ask.width,
     }
 }
 
 // Open: the working table is the class's learned table, or the fresh one; the last row is white.
-pub fn open<'a>(
-    book: Book,
-    working: &'a mut [[u8; CONTEXTS]; PAGES],
-    rows: &'a mut [[u8; ROW]; PAGES],
-    learned: &'a mut [[u8; CONTEXTS]; PLACES],
-    ask: Opening,
-) -> Reply
-    requires { Sized working.old rows.old learned.old }
-    ensures { Serves (parts_of book working.old rows.old learned.old)
-        (opens ask) result.answer
-        (parts_of result.book working.new rows.new learned.new) [] }
+pub fn open(desk: &mut Parts, ask: Opening) -> Result<Done, Refusal>
+    ensures { Serves desk.old (opens ask) (answer_of result) desk.new [] }
 {
-    let good = lawful::lawful_desk(book, working, rows, learned);
-    let key = ask.key;
     let sized = lawful::in_range(ask.width, MAX_WIDTH);
-    let early = refusals::early_refusal(good, key, sized);
-    if early != 0 {
-        return parts::refused(early, book);
+    refusals::early_refusal(desk, ask.key, sized)?;
+    if desk.find_page(Sought::Used(ask.key)).is_some() {
+        return Err(Refusal::PageOpen);
     }
-    let pages = book.pages;
-    if parts::is_found(parts::find_page(pages, 0, Sought::Used(key))) {
-        return parts::refused(3, book);
-    }
-    let Found::At(i) = parts::find_page(pages, 0, Sought::Free) else {
-        return parts::refused(4, book);
+    let Some(i) = desk.find_page(Sought::Free) else {
+        return Err(Refusal::PagesFull);
     };
-    let places = book.places;
-    let Found::At(j) = parts::find_place(places, 0, Sought::Learned(key)) else {
-        return open_new(book, working, rows, learned, ask, i);
+    let Some(j) = desk.find_place(Sought::Learned(ask.key)) else {
+        return open_new(desk, ask, i);
     };
-    let entries = learned[j];
-    let table = Table { entries: entries };
-    let last = [0u8; ROW];
-    let next = parts::put_page(book, working, rows, i, new_line(ask), table, last);
-    parts::done(0, 0, 0, next)
+    let table = Table {
+        entries: desk.learned[j],
+    };
+    desk.put_page(i, new_line(ask), table, [0; ROW]);
+    Ok(Done::default())
 }
 
 // The open page of a class without a table reserves a place.
-fn open_new<'a>(
-    book: Book,
-    working: &'a mut [[u8; CONTEXTS]; PAGES],
-    rows: &'a mut [[u8; ROW]; PAGES],
-    learned: &'a mut [[u8; CONTEXTS]; PLACES],
-    ask: Opening,
-    i: usize,
-) -> Reply
-    requires { (i < max_pages) × Whole (parts_of book working.old rows.old learned.old) }
-    ensures { (outcome_of result.answer (parts_of result.book working.new rows.new
-        learned.new) ≡ open_new (desk_of
-        (parts_of book working.old rows.old learned.old)) ask i) × Whole
-        (parts_of result.book working.new rows.new learned.new) }
+fn open_new(desk: &mut Parts, ask: Opening, i: usize) -> Result<Done, Refusal>
+    requires { (i < max_pages) × Whole desk.old }
+    ensures { (outcome_of (answer_of result) desk.new ≡ open_new (desk_of desk.old) ask i) × Whole desk.new }
 {
-    let places = book.places;
-    let place = parts::find_place(places, 0, Sought::Free);
-    if !parts::is_found(place) {
-        return parts::refused(5, book);
+    let place = desk.find_place(Sought::Free);
+    if place.is_none() {
+        return Err(Refusal::PlacesFull);
     }
-    let key = ask.key;
-    let line = PlaceLine { state: 1, key: key };
-    let none = Table {
-        entries: [0u8; CONTEXTS],
+    let line = PlaceLine {
+        state: 1,
+        key: ask.key,
     };
-    let reserved = parts::put_place(book, learned, place, line, none);
-    let last = [0u8; ROW];
-    let next = parts::put_page(
-        reserved,
-        working,
-        rows,
-        i,
-        new_line(ask),
-        Table::fresh(),
-        last,
-    );
-    parts::done(0, 0, 0, next)
+    let none = Table {
+        entries: [0; CONTEXTS],
+    };
+    desk.put_place(place, line, none);
+    desk.put_page(i, new_line(ask), Table::fresh(), [0; ROW]);
+    Ok(Done::default())
 }

@@ -1,3 +1,4 @@
+pub mod Left
 pub mod Refusing
 pub mod Served
 pub mod StandingOn

@@ -1,88 +1,47 @@
-// The calls on a class's learned table. The book goes by value; the arrays are lent in place.
+// The calls on a class's learned table.
 #![tactic(auto)]
 
-ghost use Rattle.std.specs.Prelude.{◌≡◌, [], ◌≤◌, length};
-ghost use Rattle.limits.specs.Limits.{contexts};
-ghost use Rattle.store.specs.Store.{in_front};
-ghost use Rattle.parts.specs.Parts.{parts_of, Sized};
+ghost use Rattle.std.specs.Prelude.{[]};
+ghost use Rattle.desk.specs.Allowed.{answer_of};
 ghost use Rattle.desk.specs.Calls.{drops, looks};
 ghost use Rattle.parts.specs.Replies.{Serves};
 
-use desk::{Found, Key};
-use limits::{CONTEXTS, PAGES, PLACES, ROW};
-use parts::{Book, Reply, Sought};
+use desk::{Done, Key, Refusal};
+use limits::CONTEXTS;
+use parts::{Parts, Sought};
 
 // Drop: the class's learned table is forgotten.
-pub fn forget<'a>(
-    book: Book,
-    working: &'a mut [[u8; CONTEXTS]; PAGES],
-    rows: &'a mut [[u8; ROW]; PAGES],
-    learned: &'a mut [[u8; CONTEXTS]; PLACES],
-    key: Key,
-) -> Reply
-    requires { Sized working.old rows.old learned.old }
-    ensures { Serves (parts_of book working.old rows.old learned.old)
-        (drops key) result.answer
-        (parts_of result.book working.new rows.new learned.new) [] }
+pub fn forget(desk: &mut Parts, key: Key) -> Result<Done, Refusal>
+    ensures { Serves desk.old (drops key) (answer_of result) desk.new [] }
 {
-    let good = lawful::lawful_desk(book, working, rows, learned);
-    let early = refusals::early_refusal(good, key, true);
-    if early != 0 {
-        return parts::refused(early, book);
+    refusals::early_refusal(desk, key, true)?;
+    if desk.find_page(Sought::Used(key)).is_some() {
+        return Err(Refusal::PageOpen);
     }
-    let pages = book.pages;
-    if parts::is_found(parts::find_page(pages, 0, Sought::Used(key))) {
-        return parts::refused(3, book);
+    let place = desk.find_place(Sought::Learned(key));
+    if place.is_none() {
+        return Err(Refusal::NoTable);
     }
-    let places = book.places;
-    let place = parts::find_place(places, 0, Sought::Learned(key));
-    if !parts::is_found(place) {
-        return parts::refused(11, book);
-    }
-    let next = parts::clear_place(book, learned, place);
-    parts::done(0, 0, 0, next)
+    desk.clear_place(place);
+    Ok(Done::default())
 }
 
-// A table's bytes in the front of a buffer, the rest kept.
-fn show_table(table: [u8; CONTEXTS], out: &mut [u8])
-    requires { contexts ≤ length out.old }
-    ensures { out.new ≡ in_front table out.old }
+// Look: the learned table in the front of a buffer, one byte per context, the rest kept. While a page is open this is
+// still the old table.
+pub fn look(desk: &mut Parts, key: Key, out: &mut [u8]) -> Result<Done, Refusal>
+    ensures { Serves desk.old (looks key out.old) (answer_of result) desk.new out.new }
 {
-    let mut i: usize = 0;
-    while i < CONTEXTS {
-        out[i] = table[i];
-        i += 1;
-    }
-}
-
-// Look: the learned table, one byte per context. While a page is open this is still the old table.
-pub fn look<'a, 'b>(
-    book: Book,
-    working: &'a mut [[u8; CONTEXTS]; PAGES],
-    rows: &'a mut [[u8; ROW]; PAGES],
-    learned: &'a mut [[u8; CONTEXTS]; PLACES],
-    key: Key,
-    out: &'b mut [u8],
-) -> Reply
-    requires { Sized working.old rows.old learned.old }
-    ensures { Serves (parts_of book working.old rows.old learned.old) (looks key
-        out.old) result.answer (parts_of result.book working.new rows.new
-        learned.new) out.new }
-{
-    let good = lawful::lawful_desk(book, working, rows, learned);
-    let early = refusals::early_refusal(good, key, true);
-    if early != 0 {
-        return parts::refused(early, book);
-    }
-    let places = book.places;
-    let Found::At(i) = parts::find_place(places, 0, Sought::Learned(key)) else {
-        return parts::refused(11, book);
+    refusals::early_refusal(desk, key, true)?;
+    let Some(i) = desk.find_place(Sought::Learned(key)) else {
+        return Err(Refusal::NoTable);
     };
     if out.len() < CONTEXTS {
         store::clear(out);
-        return parts::refused(9, book);
+        return Err(Refusal::NoRoom);
     }
-    let table = learned[i];
-    show_table(table, out);
-    parts::done(CONTEXTS as u64, 0, 0, book)
+    out[..CONTEXTS].copy_from_slice(&desk.learned[i]);
+    Ok(Done {
+        length: CONTEXTS as u64,
+        ..Done::default()
+    })
 }

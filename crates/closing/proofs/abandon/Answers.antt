@@ -1,72 +1,35 @@
 -- Abandon answers and leaves the desk as document 01 says. Assumes nothing.
-use mathlib.Core.Path.{◌∙◌}
+use mathlib.Core.Path.{ap, ◌∙◌}
 use mathlib.Core.List.{[]}
-use Prim.Native.Nat.{◌<◌}
 use mathlib.Core.Bool.{true}
-use Rattle.limits.specs.Limits.{max_pages}
-use Rattle.parts.specs.declared.Parts.{Parts}
-use Rattle.parts.specs.Parts.{desk_of, parts_of}
+use Rattle.std.specs.Prelude.{Err}
+use Rattle.std.proofs.lemmas.Result.{err_from_is_err_and}
+use Rattle.parts.specs.Parts.{desk_of}
 use Rattle.desk.specs.Calls.{abandons}
-use Rattle.refusals.proofs.Refusing.{Stood, away, stood, at-end, turns-away, nothing_lent, stands-as}
+use Rattle.refusals.proofs.Refusing.{Stood, away, stood, at-end, refuses, nothing_lent}
 use Rattle.closing.proofs.Leaving.{abandon-number, abandon-done}
-use Prim.Native.Nat.{ℕ}
-use Rattle.parts.specs.Parts.{Whole}
 use Rattle.closing.proofs.abandon.Goals as goal
-use Rattle.closing.proofs.abandon.Goals.{After-page_for-stands, In-On, Start}
-
--- the desk that it is asked of, and the slot of its page
-abbrev parts : Start → Parts
-parts c = parts_of c.args.book c.args.working.now c.args.rows.now c.args.learned.now
-
-abbrev slot : In-On → ℕ
-slot c = c.in-On.i
-
-whole : (c : After-page_for-stands) → Whole (parts (goal.at.After-page_for-stands c).Start)
-whole c = c.lawful_desk-good.ensures.1
+use Rattle.closing.proofs.abandon.Goals.{In_ok-i}
 
 -- it stands on its page
-there : (c : In-On) →
-    Stood (desk_of (parts (goal.at.In-On c).Start)) c.args.key true (slot c)
-there c =
-    let past = goal.at.In-On c in
+there : (c : In_ok-i) → Stood (desk_of c.args.desk.now) c.args.key true c.in_ok-i.i
+there c = let r = c.page_for in stood (desk_of c.args.desk.now) c.args.key true r.result r.ensures.0 _ c.in_ok-i.was
+
+pub returns-in_err-i : goal.returns-in_err-i
+returns-in_err-i c =
     let k = c.args.key in
-    let p = parts past.Start in
-    let r = c.page_for-stands in
-    stood (desk_of p) k true r.result
-    (stands-as p (whole past.After-page_for-stands) _ k true r.result c.lawful_desk-good.ensures.0 r.ensures.0) _
-    c.in-On.is
-
-slot-within : (c : In-On) → slot c < max_pages
-slot-within c = rw c.in-On.is at c.page_for-stands.ensures.1
-
--- ---- the page
-pub returns-in_default : goal.returns-in_default
-returns-in_default c =
-    let past = goal.at.returns-in_default c in
-    let k = c.args.key in
-    let p = parts past.Start in
-    let r = c.page_for-stands in
-    let n = c.in_default.is in
-    let w = away (desk_of p) k true r.result
-    (stands-as p (whole past.After-page_for-stands) _ k true r.result c.lawful_desk-good.ensures.0 r.ensures.0) _ n in
-    turns-away p (whole past.After-page_for-stands) (abandons k) r.result _ c.turned_away.result [] n
-    (abandon-number (desk_of p) k ∙ w.1 []) w.0.0 c.turned_away.ensures (nothing_lent _)
-
--- ---- the place that it only reserves, and its slot
-pub clear_place-freed-requires : goal.clear_place-freed-requires
-clear_place-freed-requires c = (c.reserved_place.ensures.1, c.requires.2)
-
-pub clear_page-next-requires : goal.clear_page-next-requires
-clear_page-next-requires c = (slot-within (goal.at.clear_page-next-requires c).In-On, c.requires.0, c.requires.1)
+    let p = c.args.desk.now in
+    let r = c.page_for in
+    let gone = err_from_is_err_and c.from_residual.result c.from_residual.ensures.1 in
+    let a = away (desk_of p) k true r.result r.ensures.0 _ c.in_err-i.was in
+    refuses p r.ensures.2 (abandons k) _ _ [] (abandon-number (desk_of p) k ∙ a.1 []) (gone.1 ∙ ap Err gone.2)
+    (nothing_lent _)
 
 pub returns : goal.returns
 returns c =
-    let past = goal.at.returns c in
-    let t = there past.In-On in
+    let t = there (goal.at.returns c).In_ok-i in
     let k = c.args.key in
-    let p = parts past.Start in
-    let n = c.clear_page-next in
-    abandon-done p (whole past.After-page_for-stands) k _ t.found c.clear_place-freed.result n.result _ _ _ n.ensures
-    c.done.result
-    c.reserved_place.result (abandon-number (desk_of p) k ∙ t.rest [] ∙ at-end) c.reserved_place.ensures.0
-    c.clear_place-freed.ensures c.done.ensures
+    let p = c.args.desk.now in
+    abandon-done p c.page_for.ensures.2 k c.in_ok-i.i t.found c.clear_place.new.self c.clear_page.new.self
+    c.clear_page.ensures c.reserved_place-place.result c.default.result c.default.ensures (abandon-number (desk_of p) k ∙ t.rest [] ∙ at-end)
+    c.reserved_place-place.ensures.0 c.clear_place.ensures

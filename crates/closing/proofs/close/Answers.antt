@@ -1,74 +1,38 @@
 -- Close answers and leaves the desk as document 01 says. Assumes nothing.
-use mathlib.Core.Path.{◌∙◌}
+use mathlib.Core.Path.{ap, ◌∙◌}
 use mathlib.Core.List.{[]}
-use Prim.Native.Nat.{◌<◌}
 use mathlib.Core.Bool.{true}
-use Rattle.limits.specs.Limits.{max_pages}
-use Rattle.parts.specs.declared.Parts.{Parts}
-use Rattle.parts.specs.Parts.{desk_of, parts_of}
+use Rattle.std.specs.Prelude.{Err}
+use Rattle.std.proofs.lemmas.Result.{err_from_is_err_and}
+use Rattle.parts.specs.Parts.{desk_of}
 use Rattle.desk.specs.Calls.{closes}
 use Rattle.desk.specs.Changes.{learned_place}
-use Rattle.refusals.proofs.Refusing.{Stood, away, stood, at-end, turns-away, nothing_lent, stands-as}
+use Rattle.refusals.proofs.Refusing.{Stood, away, stood, at-end, refuses, nothing_lent}
 use Rattle.closing.proofs.Leaving.{close-number, close-done}
-use Prim.Native.Nat.{ℕ}
-use Rattle.parts.specs.Parts.{Whole}
 use Rattle.closing.proofs.close.Goals as goal
-use Rattle.closing.proofs.close.Goals.{After-page_for-stands, In-On, Start}
-
--- the desk that it is asked of, and the slot of its page
-abbrev parts : Start → Parts
-parts c = parts_of c.args.book c.args.working.now c.args.rows.now c.args.learned.now
-
-abbrev slot : In-On → ℕ
-slot c = c.in-On.i
-
-whole : (c : After-page_for-stands) → Whole (parts (goal.at.After-page_for-stands c).Start)
-whole c = c.lawful_desk-good.ensures.1
+use Rattle.closing.proofs.close.Goals.{In_ok-i}
 
 -- it stands on its page
-there : (c : In-On) →
-    Stood (desk_of (parts (goal.at.In-On c).Start)) c.args.key true (slot c)
-there c =
-    let past = goal.at.In-On c in
+there : (c : In_ok-i) → Stood (desk_of c.args.desk.now) c.args.key true c.in_ok-i.i
+there c = let r = c.page_for in stood (desk_of c.args.desk.now) c.args.key true r.result r.ensures.0 _ c.in_ok-i.was
+
+pub returns-in_err-i : goal.returns-in_err-i
+returns-in_err-i c =
     let k = c.args.key in
-    let p = parts past.Start in
-    let r = c.page_for-stands in
-    stood (desk_of p) k true r.result
-    (stands-as p (whole past.After-page_for-stands) _ k true r.result c.lawful_desk-good.ensures.0 r.ensures.0) _
-    c.in-On.is
-
-slot-within : (c : In-On) → slot c < max_pages
-slot-within c = rw c.in-On.is at c.page_for-stands.ensures.1
-
--- ---- the page
-pub returns-in_default : goal.returns-in_default
-returns-in_default c =
-    let past = goal.at.returns-in_default c in
-    let k = c.args.key in
-    let p = parts past.Start in
-    let r = c.page_for-stands in
-    let n = c.in_default.is in
-    let w = away (desk_of p) k true r.result
-    (stands-as p (whole past.After-page_for-stands) _ k true r.result c.lawful_desk-good.ensures.0 r.ensures.0) _ n in
-    turns-away p (whole past.After-page_for-stands) (closes k) r.result _ c.turned_away.result [] n
-    (close-number (desk_of p) k ∙ w.1 []) w.0.0 c.turned_away.ensures (nothing_lent _)
-
--- ---- its class's place, and its slot
-pub put_place-taught-requires : goal.put_place-taught-requires
-put_place-taught-requires c = (c.find_place-place.ensures.1, c.requires.2)
-
-pub clear_page-next-requires : goal.clear_page-next-requires
-clear_page-next-requires c = (slot-within (goal.at.clear_page-next-requires c).In-On, c.requires.0, c.requires.1)
+    let p = c.args.desk.now in
+    let r = c.page_for in
+    let gone = err_from_is_err_and c.from_residual.result c.from_residual.ensures.1 in
+    let a = away (desk_of p) k true r.result r.ensures.0 _ c.in_err-i.was in
+    refuses p r.ensures.2 (closes k) _ _ [] (close-number (desk_of p) k ∙ a.1 []) (gone.1 ∙ ap Err gone.2)
+    (nothing_lent _)
 
 pub returns : goal.returns
 unfolding learned_place
 returns c =
-    let past = goal.at.returns c in
-    let t = there past.In-On in
+    let t = there (goal.at.returns c).In_ok-i in
     let k = c.args.key in
-    let p = parts past.Start in
-    let n = c.clear_page-next in
-    close-done p (whole past.After-page_for-stands) k _ t.found c.put_place-taught.result n.result _ _ _ n.ensures
-    c.done.result
-    c.find_place-place.result t.good (close-number (desk_of p) k ∙ t.rest [] ∙ at-end) c.find_place-place.ensures.0
-    c.put_place-taught.ensures c.done.ensures
+    let p = c.args.desk.now in
+    close-done p c.page_for.ensures.2 k c.in_ok-i.i t.found c.put_place.new.self c.clear_page.new.self
+    c.clear_page.ensures c.find_place-place.result c.default.result c.default.ensures t.good
+    (close-number (desk_of p) k ∙ t.rest [] ∙ at-end)
+    c.find_place-place.ensures.0 c.put_place.ensures

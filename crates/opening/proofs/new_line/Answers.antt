@@ -4,5 +4,4 @@ use Prim.Native.Nat.{ℕ}
 use Rattle.opening.proofs.new_line.Goals as goal
 
 pub returns : goal.returns
-returns c = let a = c.args in
-    ap (λ (n : ℕ). record { state = n; key = a.ask.key; width = a.ask.width }) c.state_for.ensures
+returns c = let a = c.args in ap (λ (n : ℕ). record { state = n; key = a.ask.key; width = a.ask.width }) c.into.ensures
