@@ -7,7 +7,7 @@ use native.Mathlib.Omega.{arith}
 use mathlib.Core.Bool.{Bool, true, ◌&&◌}
 use mathlib.Core.List.{List, [], ◌++◌}
 use lib.ListN.{get_or, length, take, drop, replicate, length-append, get_or-append}
-use lib.Seq.{paste, take_at, drop-append-add, drop-drop, get_or-append-add}
+use lib.Seq.{paste, take_all, take_at, drop-append-add, drop-drop, get_or-append-add}
 use Rattle.limits.specs.Limits.{max_width, last_bytes}
 use Rattle.engine.specs.Coded.{row_page}
 use Rattle.engine.specs.Followed.{Followed}
@@ -124,14 +124,17 @@ module _ (width : ℕ) (last code t₀ out₀ above : List ℕ) (s : Progress) (
         octets = octets-next;
       }
 
-  pub reads-again : (out' : List ℕ) → out' ≡ paste out (y * bytes) l.row bytes
+  pub reads-again : (out' : List ℕ) → out' ≡ paste out (y * bytes) row (length row)
       → BandRead width last code t₀ out₀ l.row l.reading out' (suc y)
   reads-again out' o =
       record {
         band = b.band ++ row;
         is_band = is-band;
         front =
-            o ∙ ap (λ (k : List ℕ). paste k (y * bytes) l.row bytes) b.front
+            o ∙ ap (λ (k : ℕ). paste out (y * bytes) row k) row-size
+            ∙ ap (λ (k : List ℕ). take (y * bytes) out ++ k ++ drop (y * bytes + bytes) out)
+            (take_all bytes row (omega (arith, row-size)))
+            ∙ ap (λ (k : List ℕ). paste k (y * bytes) l.row bytes) b.front
             ∙ ap₂ (λ (j k : List ℕ). j ++ row ++ k) (take_at b.band (drop (y * bytes) out₀) (y * bytes)
             b.is_band.size)
             (ap (λ (k : ℕ). drop (k + bytes) (b.band ++ drop (y * bytes) out₀)) (sym b.is_band.size)

@@ -43,13 +43,7 @@ pub struct Line {
 pub fn match_one(code: &[u8], at: usize, b: u8) -> bool
     ensures { result ≡ match_at code.now at b }
 {
-    if at == 0 {
-        return true;
-    }
-    if at - 1 < code.len() {
-        return code[at - 1] == b;
-    }
-    false
+    at == 0 || code.get(at - 1) == Some(&b)
 }
 
 // Whether the bytes that a pel settled are the code's too.
@@ -198,17 +192,14 @@ pub fn read_rows(
         view: View::start(code),
     };
     for y in 0..rows {
-        let line = read_row(
-            code,
-            Row {
-                bytes: &above,
-                width,
-            },
-            reading,
-        );
+        let over = Row {
+            bytes: &above,
+            width,
+        };
+        let line = read_row(code, over, reading);
         above = line.row;
         reading = line.reading;
-        store::put_row(out, y * bytes, above, bytes);
+        store::put_row(out, y * bytes, &above[..bytes]);
     }
     Rows {
         reading,

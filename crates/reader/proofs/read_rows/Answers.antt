@@ -5,7 +5,8 @@ use native.Mathlib.Nat.{mul-le-mul_right}
 use native.Mathlib.Numerals.{add-one}
 use native.Mathlib.Omega.{arith}
 use borrow.Author.Rules.{rules}
-use lib.ListN.{length}
+use lib.ListN.{length, length-take}
+use lib.Seq.{length-take-le}
 use Rattle.limits.specs.Limits.{max_rows, last_bytes}
 use Rattle.reader.proofs.RowsRead.{reads-start, reads-few, reads-again, next-room}
 use Prim.Native.Nat.{ℕ, ◌+◌, ◌*◌}
@@ -22,14 +23,6 @@ room c =
     (subst (λ (n : ℕ). a.rows * n ≤ length a.out.now) (sym c.row_bytes-bytes.ensures) c.requires.3)
 
 -- ---- the answers
-pub row_bytes-bytes-requires : goal.row_bytes-bytes-requires
-row_bytes-bytes-requires c = omega arith
-
-pub start-requires : goal.start-requires
-start-requires c = tt
-
-pub start-requires-2 : goal.start-requires-2
-start-requires-2 c = tt
 
 pub loop-y-init : goal.loop-y-init
 loop-y-init c = let a = c.args in
@@ -42,9 +35,6 @@ loop-y-init c = let a = c.args in
           c.requires.4 v.ensures.0
           (record { within = v.ensures.1; near = v.ensures.2; small = v.ensures.3 }),
     )
-
-pub slice_bounds-read_row-end : goal.slice_bounds-read_row-end
-slice_bounds-read_row-end c = sym c.loop-y.invariant.2
 
 pub read_row-line-requires : goal.read_row-line-requires
 read_row-line-requires c = let q = c.requires in
@@ -69,10 +59,15 @@ overflow_mul-y c = let q = c.requires in
     let h : c.loop-y.y ≤ max_rows = omega (arith, c.loop-y-test.true, q.2) in
     omega (arith, mul-le-mul_right m.result h, m.ensures, q.1)
 
+pub slice_bounds-put_row-end : goal.slice_bounds-put_row-end
+slice_bounds-put_row-end c = let line = c.read_row-line in
+    sym (length-take-le c.row_bytes-bytes.result line.result.row
+    (omega (arith, c.row_bytes-bytes.ensures, c.requires.1, line.ensures.packed.size)))
+
 pub put_row-requires : goal.put_row-requires
 put_row-requires c =
     let past = goal.at.put_row-requires c in
-    (omega (arith, c.row_bytes-bytes.ensures, c.requires.1), omega (arith, room past.In-loop-y, c.loop-y.invariant.1))
+    simp length-take (omega (arith, room past.In-loop-y, c.loop-y.invariant.1))
 
 pub loop-y-preserved : goal.loop-y-preserved
 loop-y-preserved c = let a = c.args in
@@ -83,9 +78,6 @@ loop-y-preserved c = let a = c.args in
     let b = reads-again a.width a.last a.code.now a.table.entries a.out.now l.above l.reading
     l.out l.y l.invariant.3 q.0 q.1 d.result d.ensures _ (rw c.row_bytes-bytes.ensures at p.ensures) in
     (omega (arith, c.loop-y-test.true), p.auto.out ∙ l.invariant.1, d.ensures.packed.size, rw add-one b)
-
-pub shape_of-out : goal.shape_of-out
-shape_of-out c = c.loop-y.invariant.1
 
 pub returns : goal.returns
 returns c = let l = c.loop-y in

@@ -12,7 +12,8 @@ put_last-n-requires g c = let a = c.args in
     let end = c.finish-end in
     let f = band-few a.band.width a.last a.band.pels.now a.table.entries a.out.now _ _ _ _ _ _ _
     c.write_rows-run.ensures a.band.narrow in
-    let n : length c.as_slice-bytes.result.now ≤ end.result.count = rw c.as_slice-bytes.ensures (simp length-take (omega arith)) in
+    let n : length c.as_slice-bytes.result.now ≤ end.result.count
+    = rw c.as_slice-bytes.ensures (simp length-take (omega arith)) in
     omega (arith, n, f.1, end.ensures.2, a.band.few)
 
 pub returns-then-not-has_room : goal.returns-then-not-has_room
