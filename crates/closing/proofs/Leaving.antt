@@ -9,10 +9,11 @@ use Rattle.estimate.specs.declared.Table.{Table}
 use Rattle.unique.specs.BandOfCode.{band_of_code}
 use Rattle.desk.specs.declared.Key.{Key}
 use Rattle.desk.specs.declared.Done.{Done}
+use Rattle.desk.specs.declared.Refusal.{Refusal}
 use Rattle.parts.specs.declared.Parts.{Parts}
 use Rattle.parts.specs.declared.PlaceLine.{PlaceLine}
 use Rattle.desk.specs.Places.{Found}
-use Rattle.std.specs.Prelude.{Ok, Some, None}
+use Rattle.std.specs.Prelude.{Result, Some, None}
 use Rattle.parts.specs.declared.Sought.TheVariants.{Used, Learned}
 use Rattle.desk.specs.Desk.{Page, Place, Desk}
 use Rattle.parts.specs.Parts.{desk_of, Whole}
@@ -29,12 +30,12 @@ use Rattle.desk.specs.Refusals.{refusal}
 use Rattle.desk.specs.Calls.{closes, abandons}
 use Rattle.desk.specs.Standing.{stand, page_of, page_by}
 use Rattle.desk.specs.Tests.{tests}
-use Rattle.desk.specs.Effects.{gone, effect}
+use Rattle.desk.specs.Effects.{stays, gone, does, effect}
 use Rattle.desk.specs.Changes.{learned_place, set_at, or_free, pages_after, places_after, changed}
-use Rattle.desk.specs.Allowed.{answer_of, number}
+use Rattle.desk.specs.Allowed.{answer_of, done_as, number}
 use Rattle.parts.specs.Replies.{Serves}
 use Rattle.refusals.proofs.Refusing.{paged, accepts}
-use Rattle.refusals.proofs.Left.{page-left, place-left, Told, told-as}
+use Rattle.refusals.proofs.Left.{page-left, place-left}
 use Rattle.closing.specs.Leaving.{reserved_found}
 
 pub none-reserved : (k : Key) (lines : List PlaceLine) → is_found (find_by (place_sought (Learned k)) lines 0) ≡ true
@@ -68,16 +69,16 @@ module _ (p : Parts) (w : Whole p) (k : Key) (i : ℕ) (f : page_found (desk_of 
       ∙ ap (λ (d : Desk). record { pages = set d.pages i unused_page; places = d.places }) (place-left x)
       ∙ rw f
 
-  module _ (place : Found) (g : Done) (still : Told 0 g) where
+  module _ (place : Found) (x : Result Done Refusal) (still : answer_of x ≡ done_as (does stays stays)) where
     -- ---- close: an open page of a lawful desk has its place
     pub close-done : lawful (desk_of p) ≡ true → number band_of_code (desk_of p) (closes k) ≡ 0
         → place ≡ find_by (place_sought (Used k)) p.book.places 0
         → PlacePut p place (learned_place k (record { entries = get_or p.working i [] })) between
-        → Serves p (closes k) (answer_of (Ok g)) q []
+        → Serves p (closes k) (answer_of x) q []
     unfolding effect changed places_after stand learned_place
-    close-done l e h x =
-        accepts p q (closes k) (Ok g) [] (page-whole (place-whole w x) cleared) e (told-as still)
-        (after x ∙ ap₂ (λ (h : Found) (t : Table). record {
+    close-done l e h y =
+        accepts p q (closes k) x [] (page-whole (place-whole w y) cleared) e still
+        (after y ∙ ap₂ (λ (h : Found) (t : Table). record {
           pages = pages_after (desk_of p) k gone;
           places = set_at h (learned_place k t) (desk_of p).places;
         }) put table) refl
@@ -95,11 +96,11 @@ module _ (p : Parts) (w : Whole p) (k : Key) (i : ℕ) (f : page_found (desk_of 
     -- ---- abandon: a class with a table keeps it; a place that was only reserved is free
     pub abandon-done : number band_of_code (desk_of p) (abandons k) ≡ 0 → place ≡ reserved_found k p.book.places
         → PlacePut p place free_place between
-        → Serves p (abandons k) (answer_of (Ok g)) q []
+        → Serves p (abandons k) (answer_of x) q []
     unfolding effect changed places_after reserved_found
-    abandon-done e h x =
-        accepts p q (abandons k) (Ok g) [] (page-whole (place-whole w x) cleared) e (told-as still)
-        (after x ∙ ap (λ (qs : List Place). record { pages = pages_after (desk_of p) k gone; places = qs })
+    abandon-done e h y =
+        accepts p q (abandons k) x [] (page-whole (place-whole w y) cleared) e still
+        (after y ∙ ap (λ (qs : List Place). record { pages = pages_after (desk_of p) k gone; places = qs })
         (ap (λ (h : Found). set_at h free_place (desk_of p).places) h
         ∙ ap₂ (λ (t h : Found). set_at (cond (is_found t) None h) free_place (desk_of p).places)
         (sym (find-places p w (Learned k))) (sym

@@ -28,14 +28,14 @@ use Rattle.desk.specs.Refusals.{row, refusal, number_of}
 use Rattle.desk.specs.Calls.{opens}
 use Rattle.desk.specs.Standing.{stand}
 use Rattle.desk.specs.Tests.{tests}
-use Rattle.desk.specs.Effects.{fresh_table, new_page, effect}
+use Rattle.desk.specs.Effects.{stays, does, fresh_table, new_page, effect}
 use Rattle.desk.specs.Changes.{reserved_place, set_at, pages_after, places_after, changed}
-use Rattle.desk.specs.Allowed.{answer_of, number, Allowed}
+use Rattle.desk.specs.Allowed.{answer_of, done_as, number, Allowed}
 use Rattle.parts.specs.Replies.{outcome_of, Serves}
 use Rattle.refusals.specs.Stands.{early}
 use Rattle.refusals.proofs.Refusing.{here, past, at-end, early-here, early-past, refuses-so, accepts-so, accepts}
 use Rattle.refusals.proofs.Refusing.{nothing_lent}
-use Rattle.refusals.proofs.Left.{page-left, place-left, Told, told-as}
+use Rattle.refusals.proofs.Left.{page-left, place-left}
 use Rattle.opening.specs.Opening.{open_new, new_line}
 
 pub new-refused : (p : Parts) (ask : Opening) (i : ℕ) → is_found (free_place_found (desk_of p)) ≡ false
@@ -43,15 +43,16 @@ pub new-refused : (p : Parts) (ask : Opening) (i : ℕ) → is_found (free_place
 unfolding open_new
 new-refused p ask i f = rw f
 
-pub new-done : (p between q : Parts) (ask : Opening) (i : ℕ) (place : Found) (table : Table) (g : Done) → Told 0 g
+pub new-done : (p between q : Parts) (ask : Opening) (i : ℕ) (place : Found) (table : Table) (x : Result Done Refusal)
+    → answer_of x ≡ done_as (does stays stays)
     → is_found (free_place_found (desk_of p)) ≡ true → place ≡ free_place_found (desk_of p)
     → table.entries ≡ fresh
     → PlacePut p place (reserved_place ask.key) between
     → PagePut between i (as_page (new_line ask) table.entries white) q
-    → outcome_of (answer_of (Ok g)) q ≡ open_new (desk_of p) ask i
+    → outcome_of (answer_of x) q ≡ open_new (desk_of p) ask i
 unfolding open_new new_page
-new-done p between q ask i place table g z f e t a b =
-    (λ j. record { answer = told-as z j; desk = put j }) ∙ rw f
+new-done p between q ask i place table x z f e t a b =
+    (λ j. record { answer = z j; desk = put j }) ∙ rw f
   where
     put : desk_of q ≡ record {
       pages = set (desk_of p).pages i (new_page ask fresh_table);
@@ -105,15 +106,16 @@ module _ (p : Parts) (ask : Opening) (s : Result (Unit {0}) Refusal) (first : s 
             (found-table d (table_found d ask.key))
 
         -- the class has a table
-        pub open-taught : (w : Whole p) (j : ℕ) (q : Parts) (g : Done) → Told 0 g → table_found d ask.key ≡ Some j
+        pub open-taught : (w : Whole p) (j : ℕ) (q : Parts) (x : Result Done Refusal)
+            → answer_of x ≡ done_as (does stays stays) → table_found d ask.key ≡ Some j
             → PagePut p i (as_page (new_line ask) (get_or p.learned j []) white) q
-            → Serves p (opens ask) (answer_of (Ok g)) q []
+            → Serves p (opens ask) (answer_of x) q []
         unfolding effect changed pages_after places_after stand new_page
-        open-taught w j q g still t x =
-            accepts p q (opens ask) (Ok g) [] (page-whole w x)
+        open-taught w j q x still t y =
+            accepts p q (opens ask) x [] (page-whole w y)
             (left ∙ past _ _ (ap (λ (y : Found). not (is_found y) && not (is_found (free_place_found d))) t) ∙ at-end)
-            (told-as still)
-            (page-left x ∙ ap₂ (λ (ps : List Page) (qs : List Place). record { pages = ps; places = qs })
+            still
+            (page-left y ∙ ap₂ (λ (ps : List Page) (qs : List Place). record { pages = ps; places = qs })
             (rw (o, f, t) (ap (λ (y : Place). set d.pages i (new_page ask y.table)) (sym (place_in p w j))))
             (rw (o, t))) refl
 

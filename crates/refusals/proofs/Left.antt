@@ -1,15 +1,11 @@
--- The desk that a page or a place put among the parts leaves, and what is answered where nothing is to be told. Assumes
--- nothing.
+-- The desk that a page or a place put among the parts leaves. Assumes nothing.
 use mathlib.Core.Path.{◌≡◌}
 use Prim.Native.Nat.{ℕ}
 use lib.ListN.{set}
-use Rattle.std.specs.Prelude.{Ok}
-use Rattle.desk.specs.declared.Done.{Done}
 use Rattle.parts.specs.declared.Parts.{Parts}
 use Rattle.desk.specs.Desk.{Page, Place}
 use Rattle.desk.specs.Places.{Found}
 use Rattle.desk.specs.Changes.{set_at}
-use Rattle.desk.specs.Allowed.{answer_of}
 use Rattle.parts.specs.Parts.{pages_of, places_of, desk_of}
 use Rattle.parts.specs.Puts.{PagePut, PlacePut}
 
@@ -21,11 +17,3 @@ module _ {p q : Parts} where
   pub place-left : {found : Found} {place : Place} → PlacePut p found place q
       → desk_of q ≡ record { pages = (desk_of p).pages; places = set_at found place (desk_of p).places }
   place-left x = λ j. record { pages = pages_of (x.pages j) (x.working j) (x.rows j); places = x.places j }
-
--- what is done, by its length; no S, and no pel revisited. The pairs are nested as those of a derived default.
-abbrev pub Told : ℕ → Done → Type 0
-Told n g = (g.length ≡ n) × ((g.shifts ≡ 0) × (g.revisits ≡ 0))
-
-pub told-as : {n : ℕ} {g : Done} → Told n g
-    → answer_of (Ok g) ≡ record { number = 0; length = n; shifts = 0; revisits = 0 }
-told-as t = λ j. record { number = 0; length = t.0 j; shifts = t.1.0 j; revisits = t.1.1 j }

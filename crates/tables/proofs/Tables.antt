@@ -28,13 +28,13 @@ use Rattle.desk.specs.Calls.{drops, looks}
 use Rattle.desk.specs.Standing.{stand, table_by, open_page, learned_table}
 use Rattle.desk.specs.Tests.{tests}
 use Rattle.desk.specs.Refusals.{Row, row, refusal, number_of}
-use Rattle.desk.specs.Effects.{effect}
+use Rattle.desk.specs.Effects.{stays, does, effect}
 use Rattle.desk.specs.Changes.{set_at, pages_after, places_after, changed}
-use Rattle.desk.specs.Allowed.{answer_of, number}
+use Rattle.desk.specs.Allowed.{answer_of, done_as, number}
 use Rattle.parts.specs.Replies.{Serves}
 use Rattle.refusals.specs.Stands.{early}
 use Rattle.refusals.proofs.Refusing.{front, here, past, at-end, early-here, early-past, accepts}
-use Rattle.refusals.proofs.Left.{place-left, Told, told-as}
+use Rattle.refusals.proofs.Left.{place-left}
 
 -- ---- the tests after the first
 module _ (d : Desk) (k : Key) where
@@ -95,25 +95,27 @@ module _ (d : Desk) (k : Key) (s : Result (Unit {0}) Refusal) (first : s ≡ ear
         look-end h = looks_on ∙ past _ _ taught ∙ past _ _ (le-ltb (length out) contexts h) ∙ at-end
 
 -- ---- what is done
-module _ (p : Parts) (w : Whole p) (k : Key) (g : Done) where
-  pub drop-done : (place : Found) (q : Parts) → number band_of_code (desk_of p) (drops k) ≡ 0
+module _ (p : Parts) (w : Whole p) (k : Key) where
+  pub drop-done : (x : Result Done Refusal) (place : Found) (q : Parts) → number band_of_code (desk_of p) (drops k) ≡ 0
       → place ≡ table_found (desk_of p) k → PlacePut p place free_place q
-      → Told 0 g
-      → Serves p (drops k) (answer_of (Ok g)) q []
+      → answer_of x ≡ done_as (does stays stays)
+      → Serves p (drops k) (answer_of x) q []
   unfolding effect changed pages_after places_after
-  drop-done place q e t x z =
-      accepts p q (drops k) (Ok g) [] (place-whole w x) e (told-as z)
-      (place-left x ∙ ap (λ (f : Found). record {
+  drop-done x place q e t y z =
+      accepts p q (drops k) x [] (place-whole w y) e z
+      (place-left y ∙ ap (λ (f : Found). record {
         pages = (desk_of p).pages;
         places = set_at f free_place (desk_of p).places;
       }) t) refl
 
-  pub look-done : (out after : List ℕ) (i : ℕ) → table_found (desk_of p) k ≡ Some i
+  pub look-done : (g : Done) (out after : List ℕ) (i : ℕ) → table_found (desk_of p) k ≡ Some i
       → number band_of_code (desk_of p) (looks k out) ≡ 0
-      → Told contexts g → after ≡ in_front (get_or p.learned i []) out
+      → g.length ≡ contexts → (g.shifts ≡ 0) × (g.revisits ≡ 0)
+      → after ≡ in_front (get_or p.learned i []) out
       → Serves p (looks k out) (answer_of (Ok g)) p after
   unfolding effect changed pages_after places_after stand
-  look-done out after i t e z l =
-      accepts p p (looks k out) (Ok g) after w e (told-as z) refl
+  look-done g out after i t e n z l =
+      accepts p p (looks k out) (Ok g) after w e
+      (λ j. record { number = 0; length = n j; shifts = z.0 j; revisits = z.1 j }) refl
       (l ∙ ap (λ (q : Place). in_front q.table.entries out) (sym (place_in p w i))
       ∙ ap (λ (f : Found). in_front (or_else (table_by (desk_of p) f) no_table).entries out) (sym t))

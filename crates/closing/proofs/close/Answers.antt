@@ -1,13 +1,13 @@
 -- Close answers and leaves the desk as document 01 says. Assumes nothing.
-use mathlib.Core.Path.{ap, ◌∙◌}
+use mathlib.Core.Path.{refl, ap, ◌∙◌}
 use mathlib.Core.List.{[]}
 use mathlib.Core.Bool.{true}
-use Rattle.std.specs.Prelude.{Err}
+use Rattle.std.specs.Prelude.{Ok, Err}
 use Rattle.std.proofs.lemmas.Result.{err_from_is_err_and}
 use Rattle.parts.specs.Parts.{desk_of}
 use Rattle.desk.specs.Calls.{closes}
 use Rattle.desk.specs.Changes.{learned_place}
-use Rattle.refusals.proofs.Refusing.{Stood, away, stood, at-end, refuses, nothing_lent}
+use Rattle.refusals.proofs.Refusing.{Stood, away, stood, at-end, refuses, nothing-done, nothing_lent}
 use Rattle.closing.proofs.Leaving.{close-number, close-done}
 use Rattle.closing.proofs.close.Goals as goal
 use Rattle.closing.proofs.close.Goals.{In_ok-i}
@@ -33,6 +33,7 @@ returns c =
     let k = c.args.key in
     let p = c.args.desk.now in
     close-done p c.page_for.ensures.2 k c.in_ok-i.i t.found c.put_place.new.self c.clear_page.new.self
-    c.clear_page.ensures c.find_place-place.result c.default.result c.default.ensures t.good
+    c.clear_page.ensures c.find_place-place.result (Ok c.default.result)
+    (nothing-done _ c.default.result refl c.default.ensures) t.good
     (close-number (desk_of p) k ∙ t.rest [] ∙ at-end)
     c.find_place-place.ensures.0 c.put_place.ensures

@@ -3,7 +3,7 @@ use mathlib.Core.Path.{◌≡◌, refl, sym, ap, ◌∙◌}
 use mathlib.Core.Bool.{Bool, false}
 use mathlib.Core.List.{[]}
 use lib.ListN.{get_or}
-use Rattle.std.specs.Prelude.{Err}
+use Rattle.std.specs.Prelude.{Ok, Err}
 use Rattle.std.proofs.lemmas.Result.{err_from_is_err_and}
 use Rattle.limits.specs.Limits.{max_width}
 use Rattle.band.specs.Band.{white}
@@ -17,7 +17,7 @@ use Rattle.parts.proofs.Puts.{page-as}
 use Rattle.desk.specs.Lawful.{within, lawful_key, lawful}
 use Rattle.desk.specs.Calls.{opens}
 use Rattle.refusals.specs.Stands.{early}
-use Rattle.refusals.proofs.Refusing.{refuses, nothing_lent}
+use Rattle.refusals.proofs.Refusing.{refuses, nothing-done, nothing_lent}
 use Rattle.opening.proofs.Opening.{open-early, open-opened, open-pages, open-taught, open-left}
 use Rattle.opening.proofs.open.Goals as goal
 use Rattle.opening.proofs.open.Goals.{After-early_refusal, After-is_some, After-find_page-2, After-find_place}
@@ -93,7 +93,8 @@ returns c =
     let a = c.args in
     open-taught a.desk.now a.ask _ (asked past.After-early_refusal) _ c.in_ok-early_refusal.was
     (is-vacant past.After-find_page-2) _ (finds-free past.After-find_page-2 ∙ c.in-Some.is) c.early_refusal.ensures.1
-    c.in-Some-find_place.j c.put_page.new.self c.default.result c.default.ensures
+    c.in-Some-find_place.j c.put_page.new.self (Ok c.default.result)
+    (nothing-done _ c.default.result refl c.default.ensures)
     (finds-table past.After-find_place ∙ c.in-Some-find_place.is)
     (page-as (ap (λ (x : PageLine). as_page x (get_or a.desk.now.learned c.in-Some-find_place.j []) white)
     c.new_line.ensures) c.put_page.ensures)

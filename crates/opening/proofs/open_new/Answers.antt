@@ -1,5 +1,5 @@
 -- By whether a place is free. Assumes nothing.
-use mathlib.Core.Path.{◌≡◌, sym, ap, ◌∙◌}
+use mathlib.Core.Path.{refl, ◌≡◌, sym, ap, ◌∙◌}
 use Rattle.band.specs.Band.{white}
 use Rattle.parts.specs.declared.PageLine.{PageLine}
 use Rattle.parts.specs.declared.Sought.TheVariants.{Free}
@@ -8,6 +8,8 @@ use Rattle.desk.specs.Places.{zero_table, is_found, free_place_found}
 use Rattle.parts.proofs.Lines.{find-places}
 use Rattle.parts.proofs.Puts.{page-as, page-whole, place-whole}
 use Rattle.desk.specs.Changes.{reserved_place}
+use Rattle.std.specs.Prelude.{Ok}
+use Rattle.refusals.proofs.Refusing.{nothing-done}
 use Rattle.opening.proofs.Opening.{new-refused, new-done}
 use Rattle.opening.proofs.open_new.Goals as goal
 use Rattle.opening.proofs.open_new.Goals.{After-is_none}
@@ -32,7 +34,8 @@ returns c =
     let put = page-as (ap (λ (x : PageLine). as_page x c.fresh.result.entries white) c.new_line.ensures)
     c.put_page.ensures in (
       new-done a.desk.now c.put_place.new.self c.put_page.new.self a.ask a.i c.find_place-place.result c.fresh.result
-          c.default.result c.default.ensures (ap is_found e ∙ c.if-is_none.ensures) (sym e) c.fresh.ensures
+          (Ok c.default.result) (nothing-done _ c.default.result refl c.default.ensures)
+          (ap is_found e ∙ c.if-is_none.ensures) (sym e) c.fresh.ensures
           c.put_place.ensures put,
       page-whole (place-whole c.requires.1 c.put_place.ensures) put,
     )

@@ -2,7 +2,7 @@
 use mathlib.Core.Path.{◌≡◌, refl, sym, ap, ◌∙◌}
 use mathlib.Core.Bool.{false}
 use mathlib.Core.List.{[]}
-use Rattle.std.specs.Prelude.{Err}
+use Rattle.std.specs.Prelude.{Ok, Err}
 use Rattle.std.proofs.lemmas.Result.{err_from_is_err_and}
 use Rattle.parts.specs.declared.Sought.TheVariants.{Used, Learned}
 use Rattle.parts.specs.Parts.{desk_of}
@@ -10,7 +10,7 @@ use Rattle.desk.specs.declared.Refusal.TheVariants.{PageOpen, NoTable}
 use Rattle.desk.specs.Places.{is_found, page_found, table_found}
 use Rattle.parts.proofs.Lines.{find-pages, find-places}
 use Rattle.desk.specs.Calls.{drops}
-use Rattle.refusals.proofs.Refusing.{refuses, nothing_lent}
+use Rattle.refusals.proofs.Refusing.{refuses, nothing-done, nothing_lent}
 use Rattle.tables.proofs.Tables.{drop-early, drop-opened, drop-untaught, drop-end, drop-done}
 use Rattle.tables.proofs.forget.Goals as goal
 use Rattle.tables.proofs.forget.Goals.{After-early_refusal, After-is_some, After-find_place-place}
@@ -65,8 +65,9 @@ returns c =
     let past = goal.at.returns c in
     let k = c.args.key in
     let p = c.args.desk.now in
-    drop-done p c.early_refusal.ensures.1 k c.default.result c.find_place-place.result c.clear_place.new.self
+    drop-done p c.early_refusal.ensures.1 k (Ok c.default.result) c.find_place-place.result c.clear_place.new.self
     (drop-end (desk_of p) k _ c.early_refusal.ensures.0 _ c.in_ok-early_refusal.was
     (is-vacant past.After-find_place-place)
     (ap is_found (finds-table past.After-find_place-place) ∙ c.if-is_none.ensures))
-    (sym (finds-table past.After-find_place-place)) c.clear_place.ensures c.default.ensures
+    (sym (finds-table past.After-find_place-place)) c.clear_place.ensures
+    (nothing-done _ c.default.result refl c.default.ensures)

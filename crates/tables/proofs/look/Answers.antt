@@ -73,7 +73,8 @@ returns c =
     let past = goal.at.returns c in
     let k = c.args.key in
     let p = c.args.desk.now in
-    look-done p c.early_refusal.ensures.1 k _ c.args.out.now _ c.in-Some.i (is-taught past.In-Some)
+    look-done p c.early_refusal.ensures.1 k (record c.default.result { length = contexts }) c.args.out.now _ c.in-Some.i
+    (is-taught past.In-Some)
     (look-end (desk_of p) k _ c.early_refusal.ensures.0 c.args.out.now _ c.in_ok-early_refusal.was _
     (is-taught past.In-Some) (omega (arith, c.if-out-lt-CONTEXTS.false)))
-    (refl, c.default.ensures.1) (rw (c.copy_from_slice.ensures.after, e) refl)
+    refl c.default.ensures.1 (rw (c.copy_from_slice.ensures.after, e) refl)
