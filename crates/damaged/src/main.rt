@@ -2,12 +2,9 @@
 // of width 13, a code whose last FF a byte 00 follows; of width 17, two bytes are no room for the row.
 #![tactic(auto)]
 
-ghost use Rattle.parts.specs.Parts.{Sized};
-
 use desk::{Direction, Key, Opening};
-use limits::{CONTEXTS, PAGES, PLACES, ROW};
-use lines::{Hex, Numbers, band_of};
-use parts::Book;
+use lines::{Hex, Numbers, band_of, new_page, page_of};
+use parts::Parts;
 use std::io;
 
 const KEY: Key = Key {
@@ -16,57 +13,28 @@ const KEY: Key = Key {
 };
 
 // An empty desk with a page of that width, open to read.
-fn new_page<'a>(
-    width: u64,
-    working: &'a mut [[u8; CONTEXTS]; PAGES],
-    rows: &'a mut [[u8; ROW]; PAGES],
-    learned: &'a mut [[u8; CONTEXTS]; PLACES],
-) -> Book
-    ensures { Sized working.new rows.new learned.new }
-{
-    let book = parts::emptied(working, rows, learned);
-    let ask = Opening {
-        key: KEY,
+fn page_to_read(width: u64) -> Parts {
+    new_page(Opening {
         direction: Direction::Read,
-        width: width,
-    };
-    let opened = opening::open(book, working, rows, learned, ask);
-    opened.book
+        ..page_of(KEY, width)
+    })
 }
 
 // The line of one code: its name and bytes, the answer's number, length and S, and the buffer of two bytes after it.
-fn line<'a, 'b, 'c>(
-    rt: &impl Print,
-    name: &'b str,
-    book: Book,
-    working: &'a mut [[u8; CONTEXTS]; PAGES],
-    rows: &'a mut [[u8; ROW]; PAGES],
-    learned: &'a mut [[u8; CONTEXTS]; PLACES],
-    code: &'c [u8],
-) -> io::Result<Book>
-    requires { Sized working.old rows.old learned.old }
-    ensures { Sized working.new rows.new learned.new }
-{
+fn line(rt: &impl Print, name: &str, desk: &mut Parts, code: &[u8]) -> io::Result<()> {
     let mut out = [255u8; 2];
-    let ask = band_of(KEY, 1);
-    let read = reading::read(book, working, rows, learned, ask, code, &mut out);
+    let read = reading::read(desk, band_of(KEY, 1), code, &mut out);
     println!(rt;
         "{name}{}: {}, buffer{}",
         Hex(code),
-        Numbers(read.answer),
+        Numbers(read),
         Hex(&out)
-    )?;
-    Ok(read.book)
+    )
 }
 
 // A code on a new page of that width.
 fn of_width(rt: &impl Print, width: u64, name: &str, code: &[u8]) -> io::Result<()> {
-    let mut working = [[0u8; CONTEXTS]; PAGES];
-    let mut rows = [[0u8; ROW]; PAGES];
-    let mut learned = [[0u8; CONTEXTS]; PLACES];
-    let book = new_page(width, &mut working, &mut rows, &mut learned);
-    line(rt, name, book, &mut working, &mut rows, &mut learned, code)?;
-    Ok(())
+    line(rt, name, &mut page_to_read(width), code)
 }
 
 // A code on a new page of width 1.
@@ -85,29 +53,9 @@ fn flips(rt: &impl Print) -> io::Result<()> {
 
 // After a damaged band the page stays open, and the band may be sent again.
 fn sent_again(rt: &impl Print) -> io::Result<()> {
-    let mut working = [[0u8; CONTEXTS]; PAGES];
-    let mut rows = [[0u8; ROW]; PAGES];
-    let mut learned = [[0u8; CONTEXTS]; PLACES];
-    let a = new_page(1, &mut working, &mut rows, &mut learned);
-    let b = line(
-        rt,
-        "Damaged on its way,",
-        a,
-        &mut working,
-        &mut rows,
-        &mut learned,
-        b"\xAC\x11",
-    )?;
-    line(
-        rt,
-        "Sent again,",
-        b,
-        &mut working,
-        &mut rows,
-        &mut learned,
-        b"\xAC\x10",
-    )?;
-    Ok(())
+    let mut desk = page_to_read(1);
+    line(rt, "Damaged on its way,", &mut desk, b"\xAC\x11")?;
+    line(rt, "Sent again,", &mut desk, b"\xAC\x10")
 }
 
 // A marker is a byte of 90 or more just after an FF, wherever it stands. It is told where there is room for the row.

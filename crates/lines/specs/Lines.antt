@@ -1,7 +1,13 @@
--- What the programs print of bytes and of answers. Assumes nothing.
+-- What the programs print of bytes and of answers, and the desk that they begin with. Assumes nothing.
 use Rattle.std.specs.Prelude.{ℕ, ◌/◌, ◌%◌, true, List, [], ◌∷◌, ◌++◌, flat_map, codes, decimal}
 use Rattle.std.specs.Fmt.{digit_glyph}
 use Rattle.desk.specs.declared.Answer.{Answer}
+use Rattle.desk.specs.declared.Opening.{Opening}
+use Rattle.desk.specs.Places.{empty_desk}
+use Rattle.desk.specs.Calls.{opens}
+use Rattle.desk.specs.Allowed.{Allowed}
+use Rattle.parts.specs.declared.Parts.{Parts}
+use Rattle.parts.specs.Replies.{outcome_of}
 
 -- a space, then the byte's two digits
 abbrev pub hex_byte : ℕ → List ℕ
@@ -15,3 +21,7 @@ hex_text bytes = flat_map hex_byte bytes
 abbrev pub answer_text : Answer → List ℕ
 answer_text a = codes "answer " ++ decimal a.number ++ codes ", length " ++ decimal a.length
     ++ codes ", S " ++ decimal a.shifts ++ codes ", revisits " ++ decimal a.revisits
+
+-- what an empty desk may become where it is asked to open a page
+abbrev pub NewPage : Opening → Parts → Type 0
+NewPage ask desk = (a : Answer) × Allowed empty_desk (opens ask) (outcome_of a desk) []

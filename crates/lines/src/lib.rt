@@ -1,11 +1,14 @@
-// What the programs ask, and what they print of the answers: text, numbers, bytes in hexadecimal.
+// What the programs ask, the desk that they begin with, and what they print: bytes in hexadecimal, answers.
 #![tactic(auto)]
 
 ghost use Rattle.std.specs.Prelude.{◌≡◌, Some};
+ghost use Rattle.desk.specs.Allowed.{answer_of};
 ghost use Rattle.desk.specs.Asked.{as_key, to_write, ask_of};
-ghost use Rattle.lines.specs.Lines.{hex_text, answer_text};
+ghost use Rattle.parts.specs.Parts.{Whole};
+ghost use Rattle.lines.specs.Lines.{hex_text, answer_text, NewPage};
 
-use desk::{Answer, Ask, Direction, Key, Opening};
+use desk::{Answer, Ask, Direction, Done, Key, Opening, Refusal};
+use parts::Parts;
 use std::fmt;
 
 // Bytes in hexadecimal: for each a space, then its two digits.
@@ -25,10 +28,10 @@ impl<'a> fmt::Display for Hex<'a> {
 
 // The four numbers that a call answers.
 #[derive(Clone, Copy)]
-pub struct Numbers(pub Answer);
+pub struct Numbers(pub Result<Done, Refusal>);
 
 impl fmt::Display for Numbers {
-    ghost output = { λ n. Some (answer_text n.0) };
+    ghost output = { λ n. Some (answer_text (answer_of n.0)) };
 
     fn fmt<W: fmt::Write>(&self, f: &mut fmt::Formatter<W>) -> fmt::Result {
         let Answer {
@@ -36,7 +39,7 @@ impl fmt::Display for Numbers {
             length,
             shifts,
             revisits,
-        } = self.0;
+        } = self.0.into();
         write!(
             f,
             "answer {number}, length {length}, S {shifts}, revisits {revisits}"
@@ -66,4 +69,13 @@ pub fn band_of(key: Key, count: u64) -> Ask
     ensures { result ≡ ask_of key.school key.class count }
 {
     Ask { key, rows: count }
+}
+
+// An empty desk that was asked for a page.
+pub fn new_page(ask: Opening) -> Parts
+    ensures { NewPage ask result × Whole result }
+{
+    let mut desk = Parts::new();
+    let _ = opening::open(&mut desk, ask);
+    desk
 }
