@@ -9,6 +9,7 @@ use desk::{Ask, Direction, Done, Refusal};
 use estimate::Table;
 use limits::MAX_ROWS;
 use parts::Parts;
+use template::Band;
 
 // Write band: the code from the page's working table and last row, which both go on.
 pub fn write(desk: &mut Parts, ask: Ask, pels: &[u8], out: &mut [u8]) -> Result<Done, Refusal>
@@ -18,18 +19,19 @@ pub fn write(desk: &mut Parts, ask: Ask, pels: &[u8], out: &mut [u8]) -> Result<
     let i = refusals::page_to(desk, ask.key, sized, Direction::Write)?;
     let page = desk.book.pages[i];
     let width = page.width as usize;
-    let count = ask.rows as usize;
-    if pels.len() != count * template::row_bytes(width) {
+    let rows = ask.rows as usize;
+    if pels.len() != rows * template::row_bytes(width) {
         return Err(Refusal::WrongSize);
     }
-    if !template::band_padded(pels, width, count) {
+    let band = Band { pels, width, rows };
+    if !band.is_padded() {
         return Err(Refusal::PaddingBit);
     }
     let table = Table {
         entries: desk.working[i],
     };
     let last = desk.rows[i];
-    let Some(wrote) = writer::write_band(table, last, width, count, pels, out) else {
+    let Some(wrote) = writer::write_band(table, last, band, out) else {
         return Err(Refusal::NoRoom);
     };
     desk.put_page(i, page, wrote.table, wrote.last);

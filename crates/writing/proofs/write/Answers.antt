@@ -23,7 +23,7 @@ use Rattle.writer.specs.declared.Wrote.{Wrote}
 use Rattle.writing.proofs.WriteAnswers.{write-number, write-pels, write-padding, write-room, cleared-out}
 use Rattle.writing.proofs.WriteAnswers.{write-end, write-gave, write-lent, write-effect}
 use Rattle.writing.proofs.write.Goals as goal
-use Rattle.writing.proofs.write.Goals.{After-page_to, Else-not-band_padded, Else-pels-count, In_ok-i, Start}
+use Rattle.writing.proofs.write.Goals.{After-page_to, Else-not-is_padded, Else-pels-rows, In_ok-i, Start}
 
 -- the desk that it is asked of, the test of its size, and the page that it stands on
 abbrev parts : Start → Parts
@@ -63,17 +63,17 @@ ranged : (c : In_ok-i) →
     (1 ≤ n) × (n ≤ max_rows)
 ranged c = within_both 1 c.args.ask.rows max_rows (there c).stood.fits
 
-is-exact : (c : Else-pels-count) →
+is-exact : (c : Else-pels-rows) →
     let a = c.args in
     length a.pels.now ≡ a.ask.rows * row_bytes (page_in a.desk.now c.in_ok-i.i).width
 is-exact c =
     let a = c.args in
-    c.if-pels-count.false ∙ ap (λ (m : ℕ). a.ask.rows * m) c.row_bytes.ensures
+    c.if-pels-rows.false ∙ ap (λ (m : ℕ). a.ask.rows * m) c.row_bytes.ensures
 
-is-padded : (c : Else-not-band_padded) →
+is-padded : (c : Else-not-is_padded) →
     let a = c.args in
     band_padded (page_in a.desk.now c.in_ok-i.i).width a.pels.now a.ask.rows ≡ true
-is-padded c = sym c.band_padded.ensures ∙ c.if-not-band_padded.false
+is-padded c = sym c.is_padded.ensures ∙ c.if-not-is_padded.false
 
 -- ---- the page
 pub returns-in_err-i : goal.returns-in_err-i
@@ -91,40 +91,41 @@ returns-in_err-i c =
 pub row_bytes-requires : goal.row_bytes-requires
 row_bytes-requires c = let h = opened (goal.at.row_bytes-requires c).In_ok-i in omega (arith, h.small)
 
-pub overflow_mul-count : goal.overflow_mul-count
-overflow_mul-count c =
-    let past = goal.at.overflow_mul-count c in
+pub overflow_mul-rows : goal.overflow_mul-rows
+overflow_mul-rows c =
+    let past = goal.at.overflow_mul-rows c in
     let h = opened past.In_ok-i in
     let n = c.args.ask.rows in
     let m = c.row_bytes.result in
     let s : m ≤ last_bytes = omega (arith, c.row_bytes.ensures, h.small) in
     omega (arith, mul-le-mul {n₁ = n} {m₁ = m} {n₂ = max_rows} {m₂ = last_bytes} (ranged past.In_ok-i).1 s)
 
-pub returns-then-pels-count : goal.returns-then-pels-count
-returns-then-pels-count c =
-    let past = goal.at.returns-then-pels-count c in
+pub returns-then-pels-rows : goal.returns-then-pels-rows
+returns-then-pels-rows c =
+    let past = goal.at.returns-then-pels-rows c in
     let a = c.args in
     let p = parts past.Start in
     refuses p (whole past.After-page_to) (writes a.ask a.pels.now a.out.now) WrongSize (Err WrongSize) _
     (write-pels (desk_of p) a.ask a.pels.now a.out.now _ (there past.In_ok-i) _ (met past.In_ok-i)
-    (λ e. c.if-pels-count.true (e ∙ ap (λ (k : ℕ). a.ask.rows * k) (sym c.row_bytes.ensures)))) refl
+    (λ e. c.if-pels-rows.true (e ∙ ap (λ (k : ℕ). a.ask.rows * k) (sym c.row_bytes.ensures)))) refl
     (keeps WrongSize a.out.now refl)
 
 -- ---- their padding
-pub band_padded-requires : goal.band_padded-requires
-band_padded-requires c =
-    let past = goal.at.band_padded-requires c in
-    let h = opened past.In_ok-i in (h.some, h.small, (ranged past.In_ok-i).1, is-exact c)
+pub invariant_of-band : goal.invariant_of-band
+invariant_of-band c =
+    let past = goal.at.invariant_of-band c in
+    let h = opened past.In_ok-i in
+    record { some = h.some; narrow = h.small; few = (ranged past.In_ok-i).1; whole = is-exact c }
 
-pub returns-then-not-band_padded : goal.returns-then-not-band_padded
-returns-then-not-band_padded c =
-    let past = goal.at.returns-then-not-band_padded c in
+pub returns-then-not-is_padded : goal.returns-then-not-is_padded
+returns-then-not-is_padded c =
+    let past = goal.at.returns-then-not-is_padded c in
     let a = c.args in
     let p = parts past.Start in
     refuses p (whole past.After-page_to) (writes a.ask a.pels.now a.out.now) PaddingBit (Err PaddingBit) _
     (write-padding (desk_of p) a.ask a.pels.now a.out.now _ (there past.In_ok-i) _ (met past.In_ok-i)
-    (is-exact past.Else-pels-count)
-    (sym c.band_padded.ensures ∙ c.if-not-band_padded.true)) refl
+    (is-exact past.Else-pels-rows)
+    (sym c.is_padded.ensures ∙ c.if-not-is_padded.true)) refl
     (keeps PaddingBit a.out.now refl)
 
 -- ---- the band
@@ -132,7 +133,7 @@ pub write_band-requires : goal.write_band-requires
 write_band-requires c =
     let past = goal.at.write_band-requires c in
     let h = opened past.In_ok-i in
-    let r = ranged past.In_ok-i in (h.some, h.small, r.0, r.1, is-exact past.Else-pels-count, h.table)
+    let r = ranged past.In_ok-i in (r.0, h.table)
 
 pub returns-in_default : goal.returns-in_default
 unfolding band_of
@@ -141,8 +142,8 @@ returns-in_default c =
     let a = c.args in
     let p = parts past.Start in
     let w = c.write_band in
-    let l = is-exact past.Else-pels-count in
-    let q = is-padded past.Else-not-band_padded in
+    let l = is-exact past.Else-pels-rows in
+    let q = is-padded past.Else-not-is_padded in
     let t = there past.In_ok-i in
     let m = met past.In_ok-i in
     refuses p (whole past.After-page_to) (writes a.ask a.pels.now a.out.now) NoRoom (Err NoRoom) _
@@ -159,8 +160,8 @@ returns c =
     let i = c.in_ok-i.i in
     let t = there past.In_ok-i in
     let m = met past.In_ok-i in
-    let l = is-exact past.Else-pels-count in
-    let q = is-padded past.Else-not-band_padded in
+    let l = is-exact past.Else-pels-rows in
+    let q = is-padded past.Else-not-is_padded in
     let w = c.write_band in
     let o = c.in-Some.is in
     let x = c.in-Some.wrote in
