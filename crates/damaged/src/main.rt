@@ -2,15 +2,10 @@
 // of width 13, a code whose last FF a byte 00 follows; of width 17, two bytes are no room for the row.
 #![tactic(auto)]
 
-use desk::{Direction, Key, Opening};
-use lines::{Hex, Numbers, band_of, new_page, page_of};
+use desk::{Direction, Opening};
+use lines::{Hex, KEY, Numbers, band_of, new_page, page_of};
 use parts::Parts;
 use std::io;
-
-const KEY: Key = Key {
-    school: 1,
-    class: 1,
-};
 
 // An empty desk with a page of that width, open to read.
 fn page_to_read(width: u64) -> Parts {
