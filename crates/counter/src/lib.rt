@@ -1,4 +1,5 @@
-// The calls over a lent desk. Other languages see these calls, as `counter_c` exports them, and no others.
+// The calls over a lent desk, with numbers for what is asked. Other languages see these calls, as `counter_c` exports
+// them, and no others: they hand over no records.
 #![tactic(auto)]
 
 ghost use Rattle.std.specs.Prelude.{◌≡◌, []};
@@ -6,14 +7,13 @@ ghost use Rattle.desk.specs.Places.{empty_desk};
 ghost use Rattle.parts.specs.Parts.{desk_of, Whole};
 ghost use Rattle.desk.specs.Calls.{opens, writes, reads, closes, abandons, drops, looks};
 ghost use Rattle.parts.specs.Replies.{Serves};
-ghost use Rattle.desk.specs.Asked.{as_key, to_write, to_read, ask_of};
+ghost use Rattle.desk.specs.Asked.{as_key, asked_to, to_write, to_read, ask_of};
 ghost use Rattle.counter.specs.Layout.{desk_bytes};
 
-use desk::Answer;
+use desk::{Answer, Ask, Direction, Key, Opening};
 use limits::{CONTEXTS, PAGES, PLACES, ROW};
 use parts::Parts;
 
-// ---- the calls over the lent desk: its book goes out and back by value, its arrays are lent in place
 // The bytes of a desk: a page has a line of 32, a table and a row; a place has a line of 24 and a table.
 const DESK_BYTES: usize = PAGES * (32 + CONTEXTS + ROW) + PLACES * (24 + CONTEXTS);
 
@@ -28,108 +28,62 @@ pub fn siftpebble_desk_bytes() -> usize
 pub fn siftpebble_empty(desk: &mut Parts)
     ensures { (desk_of desk.new ≡ empty_desk) × Whole desk.new }
 {
-    let book = asked_tables::emptied(&mut desk.working, &mut desk.rows, &mut desk.learned);
-    desk.book = book;
+    *desk = Parts::new();
+}
+
+// What an open is asked.
+fn asked_to(school: u64, class: u64, direction: Direction, width: u64) -> Opening
+    ensures { result ≡ asked_to school class direction width }
+{
+    Opening {
+        key: Key { school, class },
+        direction,
+        width,
+    }
 }
 
 // Open, to write: working table = the class's learned table, or the fresh one; last row white.
 pub fn siftpebble_open_write(desk: &mut Parts, school: u64, class: u64, width: u64) -> Answer
     ensures { Serves desk.old (opens (to_write school class width)) result desk.new [] }
 {
-    let r = asked_pages::opened_to_write(
-        desk.book,
-        &mut desk.working,
-        &mut desk.rows,
-        &mut desk.learned,
-        school,
-        class,
-        width,
-    );
-    desk.book = r.book;
-    r.answer
+    let ask = asked_to(school, class, Direction::Write, width);
+    Answer::from(opening::open(desk, ask))
 }
 
 // Open, to read: working table = the class's learned table, or the fresh one; last row white.
 pub fn siftpebble_open_read(desk: &mut Parts, school: u64, class: u64, width: u64) -> Answer
     ensures { Serves desk.old (opens (to_read school class width)) result desk.new [] }
 {
-    let r = asked_pages::opened_to_read(
-        desk.book,
-        &mut desk.working,
-        &mut desk.rows,
-        &mut desk.learned,
-        school,
-        class,
-        width,
-    );
-    desk.book = r.book;
-    r.answer
+    let ask = asked_to(school, class, Direction::Read, width);
+    Answer::from(opening::open(desk, ask))
 }
 
 // Close: the working table becomes the class's learned table. The page is gone.
 pub fn siftpebble_close(desk: &mut Parts, school: u64, class: u64) -> Answer
     ensures { Serves desk.old (closes (as_key school class)) result desk.new [] }
 {
-    let r = asked_pages::closed(
-        desk.book,
-        &mut desk.working,
-        &mut desk.rows,
-        &mut desk.learned,
-        school,
-        class,
-    );
-    desk.book = r.book;
-    r.answer
+    Answer::from(closing::close(desk, Key { school, class }))
 }
 
 // Abandon: the page is gone, the learned table is as before; a place that was only reserved is free.
 pub fn siftpebble_abandon(desk: &mut Parts, school: u64, class: u64) -> Answer
     ensures { Serves desk.old (abandons (as_key school class)) result desk.new [] }
 {
-    let r = asked_pages::abandoned(
-        desk.book,
-        &mut desk.working,
-        &mut desk.rows,
-        &mut desk.learned,
-        school,
-        class,
-    );
-    desk.book = r.book;
-    r.answer
+    Answer::from(closing::abandon(desk, Key { school, class }))
 }
 
 // Drop: the class's learned table is forgotten.
 pub fn siftpebble_drop(desk: &mut Parts, school: u64, class: u64) -> Answer
     ensures { Serves desk.old (drops (as_key school class)) result desk.new [] }
 {
-    let r = asked_tables::forgotten(
-        desk.book,
-        &mut desk.working,
-        &mut desk.rows,
-        &mut desk.learned,
-        school,
-        class,
-    );
-    desk.book = r.book;
-    r.answer
+    Answer::from(tables::forget(desk, Key { school, class }))
 }
 
 // Look: the 128 bytes of the learned table in the front of the buffer, the rest kept.
 pub fn siftpebble_look(desk: &mut Parts, school: u64, class: u64, out: &mut [u8]) -> Answer
-    ensures { Serves desk.old (looks (as_key school class) out.old) result desk.new
-        out.new }
+    ensures { Serves desk.old (looks (as_key school class) out.old) result desk.new out.new }
 {
-    let r = asked_tables::looked(
-        desk.book,
-        &mut desk.working,
-        &mut desk.rows,
-        &mut desk.learned,
-        school,
-        class,
-        out,
-    );
-    desk.book = r.book;
-    r.answer
+    Answer::from(tables::look(desk, Key { school, class }, out))
 }
 
 // Write band: the code in the front of the buffer, the rest kept; its length, S and the pels revisited.
@@ -141,23 +95,10 @@ pub fn siftpebble_write(
     pels: &[u8],
     out: &mut [u8],
 ) -> Answer
-    ensures { Serves desk.old (writes (ask_of school class rows) pels.now
-        out.old) result desk.new
-        out.new }
+    ensures { Serves desk.old (writes (ask_of school class rows) pels.now out.old) result desk.new out.new }
 {
-    let r = asked_bands::written(
-        desk.book,
-        &mut desk.working,
-        &mut desk.rows,
-        &mut desk.learned,
-        school,
-        class,
-        rows,
-        pels,
-        out,
-    );
-    desk.book = r.book;
-    r.answer
+    let key = Key { school, class };
+    Answer::from(writing::write(desk, Ask { key, rows }, pels, out))
 }
 
 // Read band: the rows in the front of the buffer, the rest kept; their bytes, S and the pels revisited.
@@ -169,21 +110,8 @@ pub fn siftpebble_read(
     code: &[u8],
     out: &mut [u8],
 ) -> Answer
-    ensures { Serves desk.old (reads (ask_of school class rows) code.now
-        out.old) result desk.new
-        out.new }
+    ensures { Serves desk.old (reads (ask_of school class rows) code.now out.old) result desk.new out.new }
 {
-    let r = asked_bands::read(
-        desk.book,
-        &mut desk.working,
-        &mut desk.rows,
-        &mut desk.learned,
-        school,
-        class,
-        rows,
-        code,
-        out,
-    );
-    desk.book = r.book;
-    r.answer
+    let key = Key { school, class };
+    Answer::from(reading::read(desk, Ask { key, rows }, code, out))
 }
