@@ -1,4 +1,5 @@
-// The calls over a lent desk, for C: each is the call of `counter` with the same name and clauses.
+// The calls over a lent desk, for C: each is the call of `counter` with the same name and clauses. The C interface
+// needs them twice, since a crate is a library for Rattle's crates or a static library, and not both.
 #![tactic(auto)]
 
 ghost use Rattle.std.specs.Prelude.{◌≡◌, []};
@@ -86,8 +87,7 @@ pub extern "C" fn siftpebble_look(
     class: u64,
     out: &mut [u8],
 ) -> Answer
-    ensures { Serves desk.old (looks (as_key school class) out.old) result desk.new
-        out.new }
+    ensures { Serves desk.old (looks (as_key school class) out.old) result desk.new out.new }
 {
     counter::siftpebble_look(desk, school, class, out)
 }
@@ -102,9 +102,7 @@ pub extern "C" fn siftpebble_write(
     pels: &[u8],
     out: &mut [u8],
 ) -> Answer
-    ensures { Serves desk.old (writes (ask_of school class rows) pels.now
-        out.old) result desk.new
-        out.new }
+    ensures { Serves desk.old (writes (ask_of school class rows) pels.now out.old) result desk.new out.new }
 {
     counter::siftpebble_write(desk, school, class, rows, pels, out)
 }
@@ -119,9 +117,7 @@ pub extern "C" fn siftpebble_read(
     code: &[u8],
     out: &mut [u8],
 ) -> Answer
-    ensures { Serves desk.old (reads (ask_of school class rows) code.now
-        out.old) result desk.new
-        out.new }
+    ensures { Serves desk.old (reads (ask_of school class rows) code.now out.old) result desk.new out.new }
 {
     counter::siftpebble_read(desk, school, class, rows, code, out)
 }
