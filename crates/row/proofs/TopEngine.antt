@@ -22,7 +22,8 @@ use Rattle.top.specs.TopLaws.{above-bottom, above_holds, top_laws}
 use Rattle.row.specs.QEngine.{q_engine}
 use Rattle.row.proofs.QEngine.{q_is_engine}
 use Rattle.row.specs.TopEngine.{top_engine, TopSound, TopPelled}
-use Rattle.row.proofs.AnyEngine.{over_is_engine, over_seven, over-first, pelled-still, pelled-moved, up-bottom, up-ready, up-count}
+use Rattle.row.proofs.AnyEngine.{over_is_engine, over_seven, over-first, pelled-still, pelled-moved}
+use Rattle.row.proofs.AnyEngine.{up-bottom, up-ready, up-count}
 use Rattle.row.specs.AnyEngine.{still_pel, moved_pel}
 use Rattle.row.proofs.WrittenRow.{Seven}
 

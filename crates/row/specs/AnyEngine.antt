@@ -1,5 +1,5 @@
--- An engine whose registers stand for a coder, with its code string at the bottom of the interval; and what a pel gives.
--- Assumes nothing.
+-- An engine whose registers stand for a coder, with its code string at the bottom of the interval; and what a pel
+-- gives. Assumes nothing.
 use Rattle.std.specs.Prelude.{◌≡◌, ℕ, Bool, is_some, List, [], length, Option, Some, None}
 use Rattle.engine.specs.Engine.{Engine}
 use Rattle.engine.specs.Coded.{Gives}
