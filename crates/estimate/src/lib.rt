@@ -6,7 +6,8 @@ ghost use Rattle.estimate.specs.Estimate.{row_of, fall, next, fresh, LawfulEntry
 
 use limits::CONTEXTS;
 
-// One entry for each context, 2 × index + sense.
+// One entry for each context, 2 × index + sense. A page of a lent desk has one too, lawful or not, so that its indexes
+// are at most 29 stands in the contracts and not here.
 #[repr(C)]
 #[derive(Clone, Copy)]
 pub struct Table {

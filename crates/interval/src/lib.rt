@@ -29,7 +29,7 @@ pub fn shifts_for(width: u64) -> u64
     width.leading_zeros() as u64 - 51
 }
 
-// How many of n expected pels of the size q fit into so much room.
+// How many of n expected pels of the size q fit into so much room. Where all do, no division is made.
 pub fn fits(n: usize, q: u64, room: u64) -> usize
     requires { (n ≤ max_width) × (1 ≤ q) × (q ≤ 0xAC1) × (room < 8192) }
     ensures { (result ≤ n) × (result * q ≤ room) }

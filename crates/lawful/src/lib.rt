@@ -1,5 +1,5 @@
 // Whether a desk is lawful. Every byte of its arrays is looked at, with no early exit, so that the loop is made of
-// vector instructions.
+// vector instructions. States are looked at as the numbers that they are in C's memory.
 #![tactic(auto)]
 
 ghost use Rattle.std.specs.Prelude.{◌≡◌, ◌+◌, ◌*◌, ◌≤◌, ◌<◌, length, get_or, drop};

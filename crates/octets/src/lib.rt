@@ -15,7 +15,8 @@ ghost use Rattle.octets.specs.declared.Coder.{Coder};
 
 use interval::Interval;
 
-// The registers: the interval, the shifts to go until a byte goes out, and the byte that may still take a carry.
+// The registers: the interval, the shifts to go until a byte goes out, and the byte that may still take a carry. Their
+// bounds (`Ready`) stand in the contracts: definitions make such registers of any numbers, as `still_by` does.
 #[derive(Clone, Copy)]
 pub struct Coder {
     pub interval: Interval,
@@ -62,7 +63,8 @@ pub struct Put<E> {
     pub bytes: Settled,
 }
 
-// The last bytes, with what follows the very last: `count` of them.
+// The last bytes, with what follows the very last: `count` of them, for `as_slice`. An array and its length, since there
+// is no heap here, and no library but the toolchain's own.
 #[derive(Clone, Copy)]
 pub struct Ended {
     pub bytes: [u8; 6],
@@ -280,6 +282,7 @@ impl Coder {
         let mut left = 24 - until;
         let mut bytes = [0u8; 6];
         let mut n: usize = 0;
+        // A byte takes eight bits or seven, so that their number is not known before.
         while 0 < left {
             let b = byte_out(low * power(until), held, 1);
             bytes[n] = b.settled;

@@ -36,7 +36,8 @@ pub struct Pel<E> {
     pub moved: Option<Moved>,
 }
 
-// Where a band stands: the registers, the table, the bytes settled and the pels revisited so far.
+// Where a band stands: the registers, the table, the bytes settled and the pels revisited so far. How much may still come
+// stands in the contracts, since it changes from row to row.
 #[derive(Clone, Copy)]
 pub struct Run {
     pub coder: Coder,

@@ -145,7 +145,7 @@ impl<'a> Row<'a> {
     }
 }
 
-// The packed rows of a band.
+// The packed rows of a band. One of no rows can't be written, but `is_padded` may be asked of it.
 #[derive(Clone, Copy)]
 pub struct Band<'a> {
     pub pels: &'a [u8],
