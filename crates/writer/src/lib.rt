@@ -29,20 +29,6 @@ pub struct Wrote {
     pub last: [u8; ROW],
 }
 
-// The row y of a band, under the row before it.
-pub fn write_next<E: Engine>(band: Band, y: usize, run: Run, out: &mut [u8]) -> Run
-    requires { (1 ≤ y) × (y < band.rows)
-        × LawfulTable run.table.entries × Ready (lift run.coder [])
-        × (run.coder.interval.count + 12 * max_width ≤ max_shifts) × (run.at + 2 * max_width ≤ farthest)
-        × (run.revisits ≤ run.coder.interval.count) }
-    ensures { RowDone band.entry.width
-        (pels_to (row_at band.entry.width band.entry.pels.now (y - 1)) band.entry.width)
-        (row_at band.entry.width band.entry.pels.now y) run.table.entries run.coder out.old run.at
-        run.revisits result.table.entries result.coder out.new result.at result.revisits }
-{
-    row::write_row::<E>(band.row(y).bytes, band.row(y - 1), run, out)
-}
-
 // The rows of a band, the first under the page's last row.
 pub fn write_rows<E: Engine>(band: Band, last: [u8; ROW], table: Table, out: &mut [u8]) -> Run
     requires { (1 ≤ band.rows) × LawfulTable table.entries }
@@ -62,7 +48,7 @@ pub fn write_rows<E: Engine>(band: Band, last: [u8; ROW], table: Table, out: &mu
     };
     let mut run = row::write_row::<E>(band.row(0).bytes, above, begun, out);
     for y in 1..band.rows {
-        run = write_next::<E>(band, y, run, out);
+        run = row::write_row::<E>(band.row(y).bytes, band.row(y - 1), run, out);
     }
     run
 }

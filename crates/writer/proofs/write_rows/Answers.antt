@@ -45,14 +45,17 @@ write_row-run-requires g c = let a = c.args in
       omega arith,
     )
 
-pub write_next-run-requires : goal.write_next-run-requires
-write_next-run-requires g c = let band = c.args.band in
-    let l = c.loop-y in
-    let b = kept g (goal.at.write_next-run-requires g c).At-loop-y in
+pub write_row-run-requires-in-loop-y : goal.write_row-run-requires-in-loop-y
+write_row-run-requires-in-loop-y g c =
+    let band = c.args.band in
+    let row = c.row-in-loop-y in
+    let above = c.row-in-loop-y-2 in
+    let b = kept g (goal.at.write_row-run-requires-in-loop-y g c).At-loop-y in
     let f = band-few _ _ _ _ _ _ _ _ _ _ _ _ b band.narrow in
-    let t : l.y < band.rows = c.loop-y-test.true in (
-      omega (arith, l.invariant.0),
-      t,
+    let t : c.loop-y.y < band.rows = c.loop-y-test.true in (
+      rw above.ensures.1 band.narrow,
+      rw above.ensures.1 (rw row.ensures.1 at row.result.fits),
+      rw above.ensures.1 band.some,
       b.done.coded.lawful,
       b.done.coded.ready,
       omega (arith, f.0, t, band.few),
@@ -63,12 +66,15 @@ write_next-run-requires g c = let band = c.args.band in
 pub loop-y-preserved : goal.loop-y-preserved
 loop-y-preserved g c = let band = c.args.band in
     let l = c.loop-y in
-    let v = c.write_next-run in (
+    let row = c.row-in-loop-y in
+    let above = c.row-in-loop-y-2 in
+    let v = c.write_row-run-in-loop-y in
+    let done = rw (row.ensures.0, above.ensures.0, above.ensures.1) at v.ensures in (
       omega (arith, l.invariant.0),
       omega (arith, c.loop-y-test.true),
       v.auto.out ∙ l.invariant.2,
       keep-next band.width band.pels.now _ l.run v.result _ l.out _ l.y _ l.invariant.0
-          l.invariant.3 v.ensures (omega (arith, l.invariant.0)),
+          l.invariant.3 done (omega (arith, l.invariant.0)),
     )
 
 pub returns : goal.returns
