@@ -63,8 +63,8 @@ pub struct Put<E> {
     pub bytes: Settled,
 }
 
-// The last bytes, with what follows the very last: `count` of them, for `as_slice`. An array and its length, since there
-// is no heap here, and no library but the toolchain's own.
+// The last bytes, with what follows the very last: `count` of them, for `as_slice`. An array and its length, since
+// there is no heap here, and no library but the toolchain's own.
 #[derive(Clone, Copy)]
 pub struct Ended {
     pub bytes: [u8; 6],

@@ -36,8 +36,8 @@ pub struct Pel<E> {
     pub moved: Option<Moved>,
 }
 
-// Where a band stands: the registers, the table, the bytes settled and the pels revisited so far. How much may still come
-// stands in the contracts, since it changes from row to row.
+// Where a band stands: the registers, the table, the bytes settled and the pels revisited so far. How much may still
+// come stands in the contracts, since it changes from row to row.
 #[derive(Clone, Copy)]
 pub struct Run {
     pub coder: Coder,
@@ -134,8 +134,8 @@ pub fn run_end(row: &[u8], above: Row, x: usize, known: usize) -> usize
     above.run_to(row, x)
 }
 
-// One row, under the row above it. The string is at the engine's place while the row is coded, and at the bottom before
-// and after.
+// One row, under the row above it, which has the width of both. The string is at the engine's place while the row is
+// coded, and at the bottom before and after.
 pub fn write_row<E: Engine>(row: &[u8], above: Row, start: Run, out: &mut [u8]) -> Run
     requires { (above.width ≤ max_width) × (above.width ≤ 8 * length row.now) × (1 ≤ above.width)
         × LawfulTable start.table.entries × Ready (lift start.coder [])

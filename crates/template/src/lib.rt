@@ -133,7 +133,7 @@ impl<'a> Row<'a> {
         y - 2
     }
 
-    // Where the white pels of the row below end that lie under this row's white ones.
+    // Where the white pels of the row below, which has this row's width, end that lie under this row's white ones.
     pub fn run_to(self, row: &[u8], x: usize) -> usize
         requires { (self.width ≤ max_width) × (self.width ≤ 8 * length row.now) × (x < self.width) }
         ensures { (x ≤ result)

@@ -31,8 +31,8 @@ struct Grown {
 }
 
 impl Top {
-    // The pel's part: the expected pel keeps the top, the unexpected pel brings it down to the end of the lower part. (At
-    // the bottom it is the other way round, so this and `grow` are no copies of the interval's.)
+    // The pel's part: the expected pel keeps the top, the unexpected pel brings it down to the end of the lower part.
+    // (At the bottom it is the other way round, so this and `grow` are no copies of the interval's.)
     fn part(self, q: u64, expected: bool) -> Self
         requires { (q ≤ self.width) × (self.width ≤ self.top) }
         ensures { (bottom_of result ≡ within (part_of (decision q expected) (bottom_of self).interval) self)
