@@ -19,6 +19,7 @@ pub fn close(desk: &mut Parts, key: Key) -> Result<Done, Refusal>
 {
     let i = refusals::page_for(desk, key, true)?;
     let place = desk.find_place(Sought::Used(key));
+    // 2: learned
     let line = PlaceLine { state: 2, key };
     let table = Table {
         entries: desk.working[i],

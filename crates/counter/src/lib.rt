@@ -42,7 +42,8 @@ fn asked_to(school: u64, class: u64, direction: Direction, width: u64) -> Openin
     }
 }
 
-// Open, to write: working table = the class's learned table, or the fresh one; last row white.
+// Open, to write: working table = the class's learned table, or the fresh one; last row white. (An exported function
+// takes no enum, so an open is two calls.)
 pub fn siftpebble_open_write(desk: &mut Parts, school: u64, class: u64, width: u64) -> Answer
     ensures { Serves desk.old (opens (to_write school class width)) result desk.new [] }
 {

@@ -30,7 +30,7 @@ fn line<E: Engine>(rt: &impl Print, name: &str, engine: &str, band: Band) -> io:
     )
 }
 
-// One band by both.
+// One band by both. It takes a band's parts, and is the one place that makes a `Band` of them.
 fn both(rt: &impl Print, name: &str, width: usize, rows: usize, pels: &[u8]) -> io::Result<()>
     requires { (1 ≤ width) × (width ≤ max_width) × (1 ≤ rows) × (rows ≤ max_rows)
         × (length pels.now ≡ rows * row_bytes width) }

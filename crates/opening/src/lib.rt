@@ -56,6 +56,7 @@ fn open_new(desk: &mut Parts, ask: Opening, i: usize) -> Result<Done, Refusal>
     if place.is_none() {
         return Err(Refusal::PlacesFull);
     }
+    // 1: reserved by an open page
     let line = PlaceLine {
         state: 1,
         key: ask.key,

@@ -21,7 +21,7 @@ use template::{Row, Window};
 use top::Top;
 
 // Where a reading stands: the writer's registers, the table, the bytes settled and the pels revisited so far, whether
-// each byte agreed with the code, and what is in sight.
+// each byte agreed with the code, and what is in sight. It goes on the same where one did not.
 #[derive(Clone, Copy)]
 pub struct Progress {
     pub coder: Coder,

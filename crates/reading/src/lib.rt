@@ -14,7 +14,8 @@ use limits::{MAX_CODE, MAX_ROWS};
 use parts::Parts;
 use reader::Fault;
 
-// Why a code is refused as which no band would have been written: it has a marker, or it is damaged otherwise.
+// Why a code is refused as which no band would have been written: it has a marker, or it is damaged otherwise. No From
+// of a `Fault`, since the code must be looked at.
 fn fault(code: &[u8]) -> Refusal
     ensures { number_of result ≡ damage (marked code.now) }
 {

@@ -20,7 +20,8 @@ use top::Top;
 
 // What is in sight of a code: its bits read so far less the low end, how many of them lie ahead, the byte last read,
 // and where the next stands. It is a place and not the rest of the code as a slice, since a reader's loop is short of
-// registers: a slice takes two, and the code is at hand there anyway, to be compared.
+// registers: a slice takes two, and the code is at hand there anyway, to be compared. That its numbers are small stands
+// in the contracts: `more` and `view_by` make it of larger ones on the way.
 #[derive(Clone, Copy)]
 pub struct View {
     pub x: u64,
@@ -37,6 +38,7 @@ pub struct Fetched {
 }
 
 // What a pel gives: whether it was the expected one, the pel itself, what is in sight then, and what the writer gives.
+// The last three are there for either.
 #[derive(Clone, Copy)]
 pub struct Told {
     pub expected: bool,
@@ -135,6 +137,7 @@ impl View {
             × (result.x < 2 ^ 32) }
     {
         let mut v = self;
+        // A byte brings eight bits or seven, so that the number of turns is not known before.
         while v.look < k {
             v = v.more(code);
         }
