@@ -1,43 +1,23 @@
--- The page's direction, where there is a page. Assumes nothing.
-use mathlib.Core.Path.{sym, ◌∙◌}
-use Rattle.std.proofs.lemmas.Result.{err_from_is_err_and}
-use Rattle.desk.specs.Lawful.{lawful_key, lawful}
-use Rattle.desk.specs.Places.{page_found, state_for}
-use Rattle.parts.specs.Parts.{desk_of}
-use Rattle.refusals.specs.Stands.{standing}
-use Rattle.refusals.proofs.StandingOn.{away-still, other_way, right-way}
+-- The key's page among the lines is the desk's. Assumes nothing.
+use mathlib.Core.Path.{sym, ap₂, subst, ◌∙◌}
+use Prim.Native.Nat.{ℕ}
+use mathlib.Core.Bool.{Bool}
+use Rattle.desk.specs.Places.{Found, state_for}
+use Rattle.desk.specs.Lawful.{lawful_key}
+use Rattle.parts.specs.declared.Sought.TheVariants.{Used}
+use Rattle.parts.proofs.Lines.{find-pages}
+use Rattle.refusals.specs.Stands.{standing, standing_to, stands_below}
 use Rattle.refusals.proofs.page_to.Goals as goal
-
-pub returns-in_err-i : goal.returns-in_err-i
-returns-in_err-i c =
-    let a = c.args in
-    let d = desk_of a.desk.now in
-    let p = err_from_is_err_and c.from_residual.result c.from_residual.ensures.1 in
-    rw (p.1, p.2) (
-      away-still a.desk.now.book.pages (state_for a.direction)
-          (standing (lawful d) (lawful_key a.key) a.sized (page_found d a.key)) _ c.in_err-i.ensures.0,
-      tt,
-      c.in_err-i.ensures.2,
-    )
-
-pub returns-then-desk-i : goal.returns-then-desk-i
-returns-then-desk-i c =
-    let a = c.args in
-    let d = desk_of a.desk.now in (
-      other_way a.desk.now.book.pages (state_for a.direction)
-          (standing (lawful d) (lawful_key a.key) a.sized (page_found d a.key)) _ c.in_ok-i.ensures.0
-          (λ e. c.if-desk-i.true (e ∙ sym c.from.ensures)),
-      tt,
-      c.in_ok-i.ensures.2,
-    )
 
 pub returns : goal.returns
 returns c =
     let a = c.args in
-    let d = desk_of a.desk.now in (
-      right-way a.desk.now.book.pages (state_for a.direction)
-          (standing (lawful d) (lawful_key a.key) a.sized (page_found d a.key)) _ c.in_ok-i.ensures.0
-          (c.if-desk-i.false ∙ c.from.ensures),
-      c.in_ok-i.ensures.1,
-      c.in_ok-i.ensures.2,
+    let lawful = c.lawful_desk.ensures in
+    let stands = c.standing_to.ensures in (
+      stands.0
+          ∙ ap₂ (λ (g : Bool) (f : Found). standing_to a.desk.now.book.pages (state_for a.direction)
+          (standing g (lawful_key a.key) a.sized f)) lawful.0
+          (sym (find-pages a.desk.now lawful.1 (Used a.key))),
+      subst (λ (n : ℕ). stands_below n c.standing_to.result) lawful.1.pages stands.1,
+      lawful.1,
     )
