@@ -10,7 +10,7 @@ use mathlib.Core.Logic.{◌⊎◌, inl, inr}
 use borrow.Author.Tests.{le-leb, lt-leb}
 use denote.Bor.{Bor}
 use Rattle.std.specs.Prelude.{Option, Some, None}
-use Rattle.std.specs.Option.{MatchOption, UnwrapsOrElse}
+use Rattle.std.specs.Option.{MatchOption, unwrap_or}
 use Rattle.std.specs.List.{slice_range}
 use Rattle.store.specs.Store.{store_at, stores, in_front, front}
 
@@ -63,11 +63,12 @@ unfolding in_front
 stores-fit out xs h = stores-drop out xs ∙ sets-eq (drop 1 xs) out 0 (rw zero-add h) ∙ rw zero-add
 
 -- ---- what std gives of a buffer's first n bytes is its front part
-pub front-got : (o : Option (Bor (List ℕ))) (buf : List ℕ) (n : ℕ) (r : Bor (List ℕ))
+pub front-got : (o : Option (Bor (List ℕ))) (buf : List ℕ) (n : ℕ) (r none : Bor (List ℕ))
     → MatchOption o ((n < 0) ⊎ (length buf < n))
     (λ x. (0 ≤ n) × (n ≤ length buf) × (x.now ≡ slice_range buf 0 n) × (length x.now + 0 ≡ n))
-    → UnwrapsOrElse o (λ x. x.now ≡ []) r → r.now ≡ front n buf
+    → none.now ≡ [] → r ≡ unwrap_or o none → r.now ≡ front n buf
 unfolding front
-front-got None buf n r (inl m) u = absurd (omega arith)
-front-got None buf n r (inr m) u = rw (lt-leb n (length buf) m) u
-front-got (Some x) buf n r m u = rw (le-leb n (length buf) m.1, u, m.2) (ap (λ (k : ℕ). take k buf) (omega arith))
+front-got None buf n r none (inl m) z u = absurd (omega arith)
+front-got None buf n r none (inr m) z u = rw (lt-leb n (length buf) m, u) z
+front-got (Some x) buf n r none m z u =
+    rw (le-leb n (length buf) m.1, u, m.2) (ap (λ (k : ℕ). take k buf) (omega arith))

@@ -52,5 +52,5 @@ pub fn put_row(out: &mut [u8], from: usize, row: &[u8])
 pub fn front_of(buf: &[u8], n: usize) -> &[u8]
     ensures { result.now ≡ front n buf.now }
 {
-    buf.get(..n).unwrap_or_default()
+    buf.get(..n).unwrap_or(&buf[..0])
 }
