@@ -47,7 +47,7 @@ pub const THEOREMS: &[(&str, &[&str])] = &[
     ("band", &["worked"]),
     // nothing more can vary
     ("unique", &["one_reader"]),
-    ("demands", &["certain", "certain-parts"]),
+    ("demands", &["certain", "certain-parts", "certain-results"]),
     ("counter", &["desk-bytes", "desk-offsets"]),
 ];
 

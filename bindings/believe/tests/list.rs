@@ -84,9 +84,9 @@ fn said(decl: &Decl) -> (String, String) {
 fn exported_calls_say_what_rattle_calls_say() {
     let tree = Tree::read(&root()).unwrap_or_else(|fault| panic!("{fault}"));
     let calls = |owner: &str, exported: bool| -> BTreeMap<String, String> {
-        // what is not public serves a call, and is none
+        // in Rattle, what is not public serves a call, and is none
         let public = |decl: &Decl| decl.code.iter().any(|word| word == "pub");
-        let is = |decl: &Decl| decl.form == Form::Call { exported } && public(decl);
+        let is = |decl: &Decl| decl.form == Form::Call { exported } && (exported || public(decl));
         let found = tree.of_crate(owner, |_, decl| is(decl));
         found.into_iter().map(|id| said(tree.decl(id))).collect()
     };
